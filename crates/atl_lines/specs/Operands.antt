@@ -1,5 +1,6 @@
 -- How the words after a keyword are read. NEW and the directions are read in any case (`is_word`).
--- See docs/RULES.md, "Orders", and docs/RULES.md, "Names in orders".
+-- See docs/RULES.md, "Orders" and "Names in orders". MissingWord comes where the line has no such word; the other fault
+-- that a comment names is that of a word that isn't as said. Of a unit, BadAlias is for the word after NEW.
 use Rattle.std.specs.Prelude.{ℕ, List, [], ◌∷◌, codes, Option, Some, None, Result, Ok, Err, ◌==◌, if◌then◌else◌}
 use Rattle.atl_words.specs.Limits.{last_alias, most_number}
 use Rattle.atl_world.specs.Worlds.{WorldValue}
@@ -98,7 +99,8 @@ new_unit_ref w = or_fault BadAlias (not_zero (number_of last_alias w.bytes)) >>=
 abbrev pub and_then_units : Result UnitRef LineFault → Result (List UnitRef) LineFault → Result (List UnitRef) LineFault
 and_then_units unit units = unit >>= λ u. units >>= λ us. Ok (u ∷ us)
 
--- the units that all words up to the line's end name, which may be none; else the first fault
+-- the units that all words up to the line's end name, which may be none; else the first fault, MissingWord for a NEW
+-- that is the last word
 unfoldable pub units_of : List WordText → Result (List UnitRef) LineFault
 units_of [] = Ok []
 units_of (w ∷ []) = if is_word (codes "NEW") w then Err MissingWord else and_then_units (unit_by_number w) (Ok [])
@@ -106,7 +108,7 @@ units_of (w ∷ v ∷ ws) =
     if is_word (codes "NEW") w then and_then_units (new_unit_ref v) (units_of ws)
     else and_then_units (unit_by_number w) (units_of (v ∷ ws))
 
--- the units that all words up to the line's end name, one or more; else the first fault
+-- the units that all words up to the line's end name; else the first fault, MissingWord where there are no words
 abbrev pub some_units_at : List WordText → Result (List UnitRef) LineFault
 some_units_at [] = Err MissingWord
 some_units_at (w ∷ ws) = units_of (w ∷ ws)

@@ -1,5 +1,5 @@
--- What each order says: its verb, and what the words after it name. Words after these are ignored. See docs/RULES.md,
--- "Orders".
+-- What each order says: its verb, and its operands, which the words after it name. Words after these are ignored. The
+-- shape of a verb says which operands it takes. See docs/RULES.md, "Orders".
 use Rattle.std.specs.Prelude.{ℕ, List, [], ◌∷◌, codes, Option, Some, None, Result, Ok, Err, ◌==◌, if◌then◌else◌}
 use Rattle.std.specs.List.{slice_range}
 use Rattle.atl_world.specs.Names.{name_ok}
@@ -29,7 +29,8 @@ OrderValue = Order (List ℕ)
 abbrev pub OperandsValue : Type 0
 OperandsValue = Operands (List ℕ)
 
--- the operands of a verb that takes a flag, 0 or 1, read from the words after it; or their first fault
+-- the operands of a verb that takes a flag, read from the word after it: false for 0, true for 1; else MissingWord
+-- without a word, or BadNumber
 abbrev pub read_flag : List WordText → Result OperandsValue LineFault
 read_flag ws = do
   w ← word_at ws
@@ -69,7 +70,8 @@ kind_of_name w =
 abbrev pub name_operands : NameKind → List ℕ → Result OperandsValue LineFault
 name_operands what bytes = if name_ok bytes then Ok (operands.Name what bytes) else Err BadName
 
--- the operands of NAME: what gets a new name, and the name (`name_of`), read from its words; or their first fault
+-- the operands of NAME, read from its words: what gets a new name (`kind_of_name`, else UnknownThing), and the name
+-- (`name_of`, else BadName); MissingWord where one of the two words is missing
 abbrev pub read_name : List WordText → Result OperandsValue LineFault
 read_name ws = do
   w ← word_at ws
@@ -84,7 +86,7 @@ read_kind world (w ∷ ws) = do
   kind ← kind_at world (w ∷ ws)
   Ok (operands.Kind (Some kind))
 
--- the operands of a verb, read from the words after it by the verb's shape in the order table; or their first fault
+-- the operands of a verb that has this shape, read from the words after it; or their first fault
 abbrev pub read_operands : WorldValue → Shape → List WordText → Result OperandsValue LineFault
 read_operands world shapes.Nothing ws = Ok operands.Nothing
 read_operands world shapes.Alias ws = alias_at ws >>= λ alias. Ok (operands.Alias alias.0)

@@ -51,25 +51,27 @@ pub record LineStep : Type 0 where
 abbrev pub step : Effect → ReaderState → (ℕ → Bool) → LineStep
 step effect state given = record { effect = effect; state = state; given = given }
 
--- the unit that an order is for, in a state of the reader; None if no unit is named, or in a skipped block
+-- the unit that an order is for, in a state of the reader: the unit that is named, or in an open block the new unit by
+-- its alias; None if no unit is named, or in a skipped block
 abbrev pub target : ReaderState → Option UnitRef
 target Nowhere = None
 target (At n) = Some (Number n)
 target (Forming parent alias) = Some (Alias alias)
 target (Skipping parent) = None
 
--- the reader's state after a block has ended, by the unit that was named before the block, if one was
+-- the reader's state outside of blocks in which the unit of this number is named, or no unit if it is None
 abbrev pub state_naming_unit : Option ℕ → ReaderState
 state_naming_unit None = Nowhere
 state_naming_unit (Some n) = At n
 
--- the step of a UNIT line: an open block ends, and further orders are for its unit; on a fault they are for no unit
+-- the step of a UNIT line, by the number read after UNIT or its fault: an open block ends, and further orders are for
+-- the unit of this number; with a fault, which is the line's, they are for no unit
 abbrev pub unit_step : (ℕ → Bool) → Result (ℕ × List WordText) LineFault → LineStep
 unit_step given (Ok n) = step nothing (At n.0) given
 unit_step given (Err fault) = step (faulty fault) Nowhere given
 
--- the step of an END line: the open block ends, and the unit that was named before it, if one was, is named again; the
--- fault is EndAlone if no block is open
+-- the step of an END line: the open block ends, and the unit that was named before it, if one was, is named again; if
+-- no block is open, the fault is EndAlone, and the state stays
 abbrev pub end_step : ReaderState → (ℕ → Bool) → LineStep
 end_step Nowhere given = step (faulty EndAlone) Nowhere given
 end_step (At n) given = step (faulty EndAlone) (At n) given
@@ -80,8 +82,9 @@ end_step (Skipping parent) given = step nothing (state_naming_unit parent) given
 abbrev pub form_value : ℕ → OrderValue
 form_value alias = order_of verbs.Form (operands.Alias alias)
 
--- The step of a FORM line for the unit `parent`, outside of blocks: the order FORM for this unit; a new alias is given,
--- and its block opens. On a fault, as BadAlias for an alias given before, a skipped block opens.
+-- The step of a FORM line for the unit `parent`, outside of blocks, by the alias read after FORM or its fault. A new
+-- alias gives the order FORM for this unit, is given from now on, and its block opens. On a fault, which is BadAlias
+-- for an alias given before, a skipped block opens.
 abbrev pub block_step : ℕ → (ℕ → Bool) → Result (ℕ × List WordText) LineFault → LineStep
 block_step parent given (Ok n) =
     if given n.0
@@ -102,12 +105,14 @@ abbrev pub effect_for : UnitRef → Result OrderValue LineFault → Effect
 effect_for unit (Ok order_value) = says unit order_value
 effect_for unit (Err fault) = faulty fault
 
--- the effect of an order's line, given the unit that it is for: the order or a fault, and NoUnit if it is for no unit
+-- the effect of an order's line, given the unit that it is for, if any: NoUnit if it is for none, whatever fault its
+-- words have; else the order, or the fault of its words
 abbrev pub order_effect : Option UnitRef → Result OrderValue LineFault → Effect
 order_effect None order_value = faulty NoUnit
 order_effect (Some unit) order_value = effect_for unit order_value
 
--- the step of a line by its keyword and the words after it; the fault is UnknownOrder if there is no keyword
+-- the step of a line by its keyword and the words after it; the fault is UnknownOrder if there is no keyword. This
+-- fault, and an order other than FORM, leave state and aliases.
 abbrev pub keyword_step : WorldValue → ReaderState → (ℕ → Bool) → Option Keyword → List WordText → LineStep
 keyword_step world state given None ws = step (faulty UnknownOrder) state given
 keyword_step world state given (Some keywords.Unit) ws = unit_step given (number_at ws)

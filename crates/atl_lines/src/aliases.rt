@@ -26,7 +26,7 @@ impl Aliases {
     ghost use Rattle.atl_lines.specs.Aliasing.{no_alias, with_alias};
     ghost use Rattle.atl_lines.specs.Views.{alias_set};
 
-    /// The empty set of aliases, with memory for all of them.
+    /// The empty set of aliases, with memory for all of them. AllocError if there is none.
     pub fn new(alloc: Global) -> Result<Aliases, AllocError>
         ensures { IfOk result (λ made. alias_set made ≡ no_alias) }
     {

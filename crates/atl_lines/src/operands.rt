@@ -1,5 +1,6 @@
 //! Reads the next words of a line as a number, a unit or a thing, or gives their first fault.
-//! See docs/RULES.md, "Orders" and "Names in orders".
+//! See docs/RULES.md, "Orders" and "Names in orders". MissingWord comes where the line has no such
+//! word, else the fault of a word that isn't as said. Of a unit, BadAlias is for that after NEW.
 ghost use Rattle.std.specs.Prelude.{◌≡◌, ◌≤◌, IfOk};
 ghost use Rattle.atl_words.specs.Limits.{most_number, last_alias};
 ghost use Rattle.atl_words.specs.Words.{words};
@@ -131,6 +132,7 @@ pub fn direction_at(line: &[u8]) -> Result<Direction, LineFault>
 }
 
 /// The units that all words up to the line's end name, which may be none, or their first fault.
+/// AllocError comes without memory.
 #[tactic(auto, using(crate::proofs::UnitLaws::one_more, crate::proofs::UnitLaws::fault_stays, crate::proofs::UnitLaws::rest_shorter, crate::proofs::UnitLaws::no_more))]
 pub fn units_of(
     alloc: Global,

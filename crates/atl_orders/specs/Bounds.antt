@@ -1,5 +1,5 @@
 -- What holds of all mailings that are read: a faction in range, ascending line numbers, and orders with operands of the
--- verb's shape, numbers in range, names by their rule, and things of the world.
+-- verb's shape, which says of which kind they are, numbers in range, names by their rule, and things of the world.
 use Rattle.std.specs.Prelude.{◌≡◌, ◌≤◌, ◌<◌, ℕ, true, List, [], ◌∷◌, length, Some, None, Ok}
 use Rattle.std.specs.List.{All}
 use Rattle.atl_words.specs.Limits.{most_number, last_alias, last_faction}
@@ -32,7 +32,7 @@ IsUnitRef (Number n) = IsNumber n
 IsUnitRef (Alias alias) = IsAlias alias
 
 -- the operands of an order are in bounds: numbers and aliases in range, in a list one unit or more, names by the rule,
--- and things that a world has
+-- and things that the world has; a flag, a direction, no operand and no kind always are
 abbrev pub AreOperandsOf : WorldValue → OperandsValue → Type 0
 AreOperandsOf world operands.Nothing = Unit {0}
 AreOperandsOf world (operands.Alias alias) = IsAlias alias
@@ -50,7 +50,7 @@ AreOperandsOf world (operands.Kind (Some kind)) = kind < length world.kinds
 AreOperandsOf world (operands.Skill skill) = skill < length world.skills
 AreOperandsOf world (operands.Item item) = item < length world.items
 
--- the shape of the words that name the operands
+-- the shape of operands: of which kind each is, such as a unit and a number
 abbrev pub shape_of : OperandsValue → Shape
 shape_of operands.Nothing = shapes.Nothing
 shape_of (operands.Alias alias) = shapes.Alias
@@ -67,17 +67,15 @@ shape_of (operands.Kind kind) = shapes.Kind
 shape_of (operands.Skill skill) = shapes.Skill
 shape_of (operands.Item item) = shapes.Item
 
--- an order says what it is: its operands have the shape that the order table gives its verb, and are in bounds
+-- an order says what it is: its operands have the shape that the order table gives its verb, and are in bounds, with
+-- things that the world has (`AreOperandsOf`)
 pub record IsOrderOf (world : WorldValue) (order_value : OrderValue) : Type 0 where
-  -- the operands have the shape of the words after the verb
   pub shape : shape_of order_value.operands ≡ (row_of order_value.verb).shape
-  -- the operands are in bounds (`AreOperandsOf`)
   pub operands : AreOperandsOf world order_value.operands
 
--- an order of a mailing says what it is, and is in bounds, as is the reference to the unit that it is for
+-- an order of a mailing says what it is and is in bounds (`IsOrderOf`), as is the reference to the unit that it is for
 pub record IsEntry (world : WorldValue) (e : EntryValue) : Type 0 where
   pub target : IsUnitRef e.target
-  -- the operands of the order have the shape of its verb, and are in bounds (`IsOrderOf`)
   pub order : IsOrderOf world e.order_value
 
 -- the line numbers of a mailing's orders are strictly ascending, and all are above the number given

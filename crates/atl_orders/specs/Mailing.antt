@@ -62,7 +62,8 @@ after_header world (Ok h) = Ok (record {
   faults = flat_map fault_of (effects world h.next Nowhere no_alias h.rest);
 })
 
--- the faction, orders and faulty lines that a text gives; else TooLong, NoHeader or BadHeader
+-- the faction, orders and faulty lines that a text gives; TooLong for more than most_bytes bytes, else NoHeader without
+-- a line that begins with `#ATLANTIS`, else BadHeader if the first such line names no faction
 unfoldable pub reading : WorldValue → List ℕ → Result Reading MailFault
 reading world text =
     if nat_lt most_bytes (length text) then Err TooLong

@@ -26,7 +26,8 @@ use Rattle.atl_lines.specs.Reading.{is_plain, keyword_of, nothing, faulty, says,
 use Rattle.atl_orders.specs.Mailing.{EntryValue, entry_of, fault_of, effects, Reading, reading}
 use Rattle.atl_words.specs.Header.{faction_of}
 
--- the reader's state once the open block is closed, None if no block is open
+-- the reader's state once the open block is closed: the unit that was named before it, if one was, is named again; None
+-- if no block is open
 abbrev pub state_after_block : ReaderState → Option ReaderState
 state_after_block Nowhere = None
 state_after_block (At n) = None

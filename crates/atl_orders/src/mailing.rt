@@ -71,7 +71,7 @@ impl Mailing {
 
     /// The bytes of a name in an order of this mailing: the part of the text in the span, as far as
     /// it is there. In a name without quotes `_` is read as a space. For an order that was read
-    /// these bytes keep the rule of names.
+    /// these bytes keep the rule of names. AllocError comes without memory.
     pub fn name(&self, alloc: Global, span: Span) -> Result<Sequence<u8>, AllocError>
         ensures { IfOk result (λ bytes. bytes ≡ name_in self.now.text span) }
     {
@@ -157,8 +157,9 @@ fn find_header(text: &[u8]) -> Result<Header<'_>, MailFault>
     Err(MailFault::NoHeader)
 }
 
-/// Whether a text is a mailing of a faction: it has at most `MOST_BYTES` bytes, and its header
-/// names the faction. It takes no memory. See docs/RULES.md, "Reading a mailing".
+/// Whether a text is a mailing of a faction: it has at most `MOST_BYTES` bytes, and its first line
+/// that begins with `#ATLANTIS` names the faction. It takes no memory.
+/// See docs/RULES.md, "Reading a mailing".
 pub fn is_mailing_of(faction: u32, text: &[u8]) -> bool
     ensures { IsTrue result ↔ (IsMailingOf faction text.now) }
 {

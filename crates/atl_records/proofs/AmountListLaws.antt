@@ -152,7 +152,8 @@ module _ (amount : Account → ℤ) where
             ] ∙ sym (ap (λ b. cond (b || later) (listing_of (amount a)) None) apart)
       ]
 
--- the list of the books' amounts (`entries`) has those of all accounts in order, without the amounts that are 0
+-- the list of the books' amounts (`entries`) has those of all accounts in order, without the amounts that are 0, if the
+-- books list only amounts of their things that aren't 0 (`AreBooks`)
 pub entries-amounts : (things : ℕ) (books : BooksValue) → AreBooks things books
     → entries books.amounts ≡ listed_of (λ a. amount_in books a.0 a.1) (accounts things)
 entries-amounts things books are =

@@ -219,7 +219,8 @@ module _ (things : ℕ) (books : BooksValue) (are : AreBooks things books) where
 pub same_value : (a b : BooksValue) → a.things ≡ b.things → a.amounts ≡ b.amounts → a ≡ b
 same_value a b things amounts i = record { things = things i; amounts = amounts i }
 
--- books of the same number of things, with the same amount of each thing under each entry, are equal
+-- books of the same number of things, with the same amount of each thing under each entry, are equal, if both list only
+-- amounts of their things that aren't 0 (`AreBooks`)
 pub same_books : (things : ℕ) (a b : BooksValue) → AreBooks things a → AreBooks things b
     → ((e : BooksEntry) (t : Thing) → amount_in a e t ≡ amount_in b e t) → a ≡ b
 same_books things a b are also same =

@@ -216,7 +216,7 @@ booked-as_books rows t grid there =
     (λ i. sum_of (map (λ e. each e i) all_entries))
     ∙ ap sum_of (row_listed (row_of rows t) (grid.wide (thing_index t) [] there))
 
--- ---- for the code of Books: `row` is the row at `index`, that of thing t, and k is the index of entry e in it
+-- ---- for the code of Books: `row` is the row at `index`, that of thing t, which has a row; k is the index of entry e
 
 pub grid_there : (rows : List (List ℤ)) (books : BooksValue) (t : Thing) → as_books rows ≡ books
     → thing_index t < books.things → thing_index t < length rows
@@ -239,7 +239,7 @@ pub cell_written : (rows : List (List ℤ)) (e : BooksEntry) (t : Thing) (index 
     → set rows index (set row k x) ≡ with_cell rows e t z
 cell_written rows e t index k row x z is at entry value there = let its = row_read rows t index row is at there in λ i. set rows (at i) (set (its i) (entry i) (value i))
 
--- the sum of the row is the sum of what is booked of its thing under all entries
+-- the sum of the row, in a grid (`IsGrid`), is the sum of what is booked of its thing under all entries
 pub row_summed : (rows : List (List ℤ)) (t : Thing) (index : ℕ) (row : List ℤ) → row ≡ get_or rows index row
     → index ≡ thing_index t → IsGrid rows → thing_index t < length rows → sum_of row ≡ booked (as_books rows) t
 row_summed rows t index row is at grid there =

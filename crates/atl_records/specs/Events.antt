@@ -6,7 +6,7 @@ use Rattle.atl_records.specs.declared.event.EventVerb.TheVariants.{Order, Upkeep
 use Rattle.atl_records.specs.declared.event.EventFault.{EventFault}
 use Rattle.atl_records.specs.declared.event.EventFault.TheVariants.{NotYours, NotHere, NotEnough, NoRoom, Guarded, NotOwner, NotInside, UnitLimit, AtSea, NoMen, WrongNumber, NotGuarding, NoSkill, NoMaterial, Complete, StructureLimit, NoWay, TooHeavy, NotComplete, NoCrew, NotLearning, CannotTeach, NoFee, NoMarket}
 
--- the keyword of an event's verb in capitals, as reports print it
+-- the keyword of an event's verb in capitals, as reports print it: that of the order, or UPKEEP
 abbrev pub event_keyword : EventVerb → List ℕ
 event_keyword (Order verb) = keyword verb
 event_keyword Upkeep = codes "UPKEEP"

@@ -31,7 +31,7 @@ accounts_under things e = map (λ i. (e, thing_at i)) (range_with_len 0 things)
 abbrev pub accounts : ℕ → List Account
 accounts things = flat_map (accounts_under things) all_entries
 
--- the books with the amount of each account (an entry with a thing) of a list set to what a function of accounts gives
+-- the books with the amount of each account (an entry with a thing) of a list set to what `amount` gives for it
 abbrev pub with_amounts : (Account → ℤ) → List Account → BooksValue → BooksValue
 with_amounts amount [] books = books
 with_amounts amount (a ∷ others) books = with_amount (with_amounts amount others books) a.0 a.1 (amount a)

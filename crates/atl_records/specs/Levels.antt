@@ -24,11 +24,11 @@ days_for level men = level_days * level * (level + 1) * men
 unfoldable pub level_of : ℕ → ℕ → ℕ
 level_of days men = if men == 0 then 0 else greatest (λ level. nat_le (days_for level men) days) last_level
 
--- the level of a unit's men in a skill, by the days that they have studied it
+-- the level of a unit's men in a skill, by the days that they have studied it; 0 without men
 abbrev pub level_in : HoldingValue → (skill : ℕ) → ℕ
 level_in h skill = level_of (amount_of h.days skill) h.men
 
--- the level of a unit's men in a skill, 0 where no skill is named
+-- the level of a unit's men in a skill (`level_in`), 0 where no skill is named
 abbrev pub level_in_any : HoldingValue → Option ℕ → ℕ
 level_in_any h None = 0
 level_in_any h (Some skill) = level_in h skill
@@ -58,10 +58,10 @@ goods_weight w h = sum_by (λ e. e.1 * weight_of w e.0) (entries h.items)
 abbrev pub carried_by_goods : WorldValue → HoldingValue → ℕ
 carried_by_goods w h = sum_by (λ e. e.1 * carry_of w e.0) (entries h.items)
 
--- the weight of a unit: its men, at man_weight each, and its goods
+-- the weight of a unit: its men, at the rule man_weight each, and its goods; money weighs nothing
 abbrev pub load_of : WorldValue → HoldingValue → ℕ
 load_of w h = h.men * w.rules.man_weight + goods_weight w h
 
--- the weight that a unit can carry: its men, at man_carry each, and its goods that carry
+-- the weight that a unit can carry: what its men carry, at the rule man_carry each, and what its goods carry
 abbrev pub carried_by : WorldValue → HoldingValue → ℕ
 carried_by w h = h.men * w.rules.man_carry + carried_by_goods w h

@@ -32,7 +32,7 @@ entry_count = 16
 abbrev pub first_entry_count : ℕ
 first_entry_count = 13
 
--- how many entries the books have in a format
+-- how many entries the books have in a format: 13 in the first, 16 in the second
 abbrev pub entries_in : Format → ℕ
 entries_in First = first_entry_count
 entries_in Second = entry_count

@@ -65,7 +65,7 @@ impl BooksEntry {
         Made Used Bought Sold Stocked
     );
 
-    /// The entry's number, from 1.
+    /// The entry's number, from 1 to 16.
     pub fn number(self) -> u32
         ensures value { result ≡ entry_index self + 1 }
         ensures small { result ≤ entry_count }
@@ -189,7 +189,8 @@ impl Books {
         }
     }
 
-    /// How many things the books have amounts of: money, people, and the items of the world.
+    /// How many things the books have amounts of: money, people, and the items of the world. They
+    /// list amounts of these alone, and none that is 0 (`AreBooks`).
     pub fn len(&self) -> usize
         ensures value { result ≡ self.now.things }
         ensures few { result ≤ possible_things }
@@ -207,8 +208,8 @@ impl Books {
         self.rows[thing.row_index()][entry.column()]
     }
 
-    /// Sets the amount of a thing under an entry. The books must have the thing. It takes no
-    /// memory.
+    /// Sets the amount of a thing under an entry, also to 0, which isn't listed. The books must
+    /// have the thing. It takes no memory.
     pub fn put(&mut self, entry: BooksEntry, thing: Thing, amount: i64)
         requires { thing_index thing < self.old.things }
         ensures { self.new ≡ with_amount self.old entry thing amount }

@@ -67,7 +67,7 @@ pub fn amount_under(amounts: &Numbered<u32>, number: u32) -> u32
 }
 
 /// Sets the amount that a map has under a number (pieces of an item, days of a skill). An amount of
-/// 0 takes the number out, which takes no memory. Without memory nothing changes.
+/// 0 takes the number out, which takes no memory. AllocError without memory; then nothing changes.
 pub fn put_amount(amounts: &mut Numbered<u32>, number: u32, amount: u32) -> Result<(), AllocError>
     ensures ok { OnOk result (amounts.new ≡ with_amount_of amounts.old number amount) }
     ensures err { OnErr result (amounts.new ≡ amounts.old) }
@@ -216,7 +216,7 @@ impl Holding {
     }
 
     /// Sets how many pieces of an item are held, from 1 to HOLDING_LIMIT, as a stored row says.
-    /// Without memory nothing changes.
+    /// AllocError without memory, and then nothing changes.
     pub fn put_item(&mut self, item: u32, amount: u32) -> Result<(), AllocError>
         requires { (1 ≤ amount) × (amount ≤ holding_limit) }
         ensures ok { OnOk result
@@ -227,7 +227,7 @@ impl Holding {
     }
 
     /// Sets the days of a skill over all men, as a stored row says; days of 0 are listed too.
-    /// Without memory nothing changes.
+    /// AllocError without memory, and then nothing changes.
     pub fn put_days(&mut self, skill: u32, days: u32) -> Result<(), AllocError>
         ensures ok { OnOk result
             (self.new ≡ record self.old { days = map.insert self.old.days skill days }) }

@@ -58,7 +58,8 @@ put_rows line numbered rows news m n v was made r = (
   ]),
 )
 
--- the rows of the table `has` for some units are also those for these units and a new one without items and skills
+-- the rows of the table `has` for some units are also those with one unit more, under a number `n` that none of them
+-- has, if this unit has no items and skills
 pub no_goods : (rows : List Row) (units : FinMap nat_cmp Unit) (n : ℕ) (u : Unit) → get units n ≡ None
     → ((sort : ThingKind) → things_of sort u.holding ≡ empty) → HasExactly rows (HasRowsOf units)
     → HasExactly rows (HasRowsOf (insert units n u))

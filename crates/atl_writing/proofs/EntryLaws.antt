@@ -135,7 +135,7 @@ apart_append key (x ∷ xs) ys one two cross = (
 
 -- ---- one row for each entry
 
--- two numbers are equal if rows of each alone are
+-- two numbers are equal if two rows are, of which each has one of the numbers as its only column
 pub same_number : (m n : ℕ) → ◌≡◌ {A = Row} (int m ∷ []) (int n ∷ []) → m ≡ n
 same_number m n e = cc
 

@@ -117,7 +117,8 @@ module _ {V : Type 0} (lines : ℕ → V → List Row) (more : ℕ) (values : Fi
         inside_weaker HasTables (Drops table 1 (int n ∷ [])) (RewritesGroup table Wanted n) old new
         (λ has drops. bare_rewrite old.now new.now drops none) did
 
--- to put a wanted row is a statement of the campaign's rows (`OfRow`), if each wanted row is one of the part's
+-- to put a wanted row is a statement of the campaign's rows (`OfRow`), if the part's keys have `more + 1` columns, and
+-- each wanted row is one of the part's, whatever the campaign row `own` is
 pub puts_wanted : (part : Part) (more : ℕ) → key_width_of part ≡ suc more → (Wanted : CampaignValue → Row → Type 0)
     → ((own : Row) (c : CampaignValue) (r : Row) → Wanted c r → rows_for own c part r) → (c : CampaignValue) (r : Row)
     → Wanted c r

@@ -33,7 +33,7 @@ pub has_optional : (b : Bool) (row : Row) → b ≡ false → Has (if b then [] 
 has_optional true row is = absurd (true≢false is)
 has_optional false row is = inl refl
 
--- the rows of a list of at most one row differ in their key
+-- the rows of a list that is empty if `b` is true, and else has one row, differ in their key
 pub optional_apart : (key : ℕ) (b : Bool) (row : Row) → DifferInKey key (if b then [] else row ∷ [])
 optional_apart key true row = tt
 optional_apart key false row = (λ y none. absurd none, tt)

@@ -49,12 +49,12 @@ module _ (Becomes : Part → List Row → List Row → Type 0) where
 
 -- ---- each of some parts, one after another
 
--- what is done for one part is done in turn for the list of this part
+-- what is done for one part (`Does`) is done in turn for the list of this part alone
 pub in_turn_one : (Does : Part → Database → Database → Type 0) (part : Part) (old new : Database) → Does part old new
     → InTurn Does (part ∷ []) old new
 in_turn_one Does part old new did = (new, did, refl)
 
--- what is done in turn for some parts, and then for others, is done in turn for both lists
+-- what is done in turn (`Does`) for the parts `ps`, and then for `qs`, is done in turn for `ps` followed by `qs`
 pub in_turn_then : (Does : Part → Database → Database → Type 0) (ps qs : List Part) (old mid new : Database)
     → InTurn Does ps old mid → InTurn Does qs mid new → InTurn Does (ps ++ qs) old new
 in_turn_then Does [] qs old mid new none rest = subst (λ db. InTurn Does qs db new) none rest

@@ -61,7 +61,7 @@ module _ (old new : Database) (is : IsFirstFormat old) (made : CreatesTable old_
         absurd (free (has_map (λ (u : Table). u.tree) all_tables t (has_left old_schema.tables (market_table ∷ []) t was)));
   }
 
--- the statement that makes the table `market` adds it, empty, to a database of the first format, and keeps all else
+-- the statement that makes the table `market` adds it, empty, to a database of the first format, whose tables stay
 pub adds_markets : (old new : State) → RunsStatement (creation_of Markets) [] old new
     → DoesInside IsFirstFormat AddsMarkets old new
 adds_markets old new ran = (
@@ -132,8 +132,8 @@ module _ (text : List ℕ) (c : CampaignValue) (old mid new : Database) (first :
           (λ there. absurd (subst (λ l. Has l r) (other_tables_stay Markets (λ e. absurd cc) ∙ ap (map (visible_row market_table)) first.empty) there), λ of. absurd (no_stocks c bare r of))
       rows part = rows_stay part (λ e. absurd cc) (in_first part (λ e. absurd cc))
 
--- to add the table `market`, from `start` to `mid`, and then to give the campaign row the new format and text, from
--- `mid` to `end`, writes the upgrade (`WritesUpgrade`)
+-- In a database of the first format, to add the table `market`, from `start` to `mid`, and then to give the campaign
+-- row the second format and the world text `text`, from `mid` to `end`, writes the upgrade (`WritesUpgrade`).
 pub upgrade_done : (text : List ℕ) (c : CampaignValue) (start mid end : State)
     → DoesInside IsFirstFormat AddsMarkets start mid
     → DoesInside HasTables (UpgradesCampaignRow (campaign_row_of c) text) mid end

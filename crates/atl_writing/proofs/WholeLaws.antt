@@ -22,7 +22,8 @@ use Rattle.atl_sql.proofs.CarryLaws.{carries_then}
 use Rattle.atl_sql.proofs.WriteLaws.{on_ok_of_error, HandsOn, weaker, two_steps}
 use Rattle.atl_containers.proofs.SlotLaws.{on_err}
 
--- two steps inside a transaction, one after the other, are one step that does both
+-- two steps inside a transaction, the first on tables that are as `Before` says, and the second on a campaign's tables
+-- (`HasTables`), are one step that does both
 pub inside_then : (Before : Database → Type 0) (First Second : Database → Database → Type 0) (a b c : State)
     → DoesInside Before First a b → DoesInside HasTables Second b c → DoesInside Before (DoesBoth First Second) a c
 inside_then Before First Second a b c one two = (
@@ -33,7 +34,7 @@ inside_then Before First Second a b c one two = (
       record { does = (b.now, was.does, now.does); tables = now.tables; carries = carries_then a.now b.now c.now was.carries now.carries },
 )
 
--- a step that does `Does`, on tables that are as `Before` says, does also `Less`, which follows from it
+-- a step that does `Does`, on tables that are as `Before` says, does also `Less`, which follows from both
 pub inside_weaker : (Before : Database → Type 0) (Does Less : Database → Database → Type 0) (a b : State)
     → (Before a.now → Does a.now b.now → Less a.now b.now) → DoesInside Before Does a b → DoesInside Before Less a b
 inside_weaker Before Does Less a b weaker h =

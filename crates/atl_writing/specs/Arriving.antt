@@ -42,14 +42,14 @@ pub record HasArrivalWith (c : CampaignValue) (number : ℕ) (faction : Faction)
   pub report_is : get c.reports number ≡ Some report
   pub things : 2 ≤ c.books.things
 
--- the rows of `books` once the amount of `entry` and `thing` is written: its row, or none if it is 0, and the other
--- rows of the set `S`
+-- the rows of `books`, which were those of the set `S`, once the campaign's amount of `entry` and `thing` is written:
+-- its row, or none if it is 0, and the rows of `S` with another key
 abbrev pub rows_with_amount : CampaignValue → BooksEntry → Thing → Set → Set
 rows_with_amount c entry thing S r =
     Has (amount_lines c entry thing) r ⊎ (S r × (take 2 r ≢ books_key (entry_index entry + 1) (thing_index thing)))
 
--- the amount of `entry` and `thing` in the books is written: it has its row, or none if it is 0; all other rows and
--- tables are as they were
+-- the campaign's amount of `entry` and `thing` is written into `books`: it has its row, or none if it is 0; all other
+-- rows and tables are as they were
 abbrev pub WritesAmount : CampaignValue → BooksEntry → Thing → Database → Database → Type 0
 WritesAmount c entry thing old new = Alters books_table (rows_with_amount c entry thing (Has (rows_in books_table old.trees))) old new
 
@@ -58,17 +58,14 @@ abbrev pub HasPut : Table → Row → Database → Database → Type 0
 HasPut table row old new = HasExactly (rows_in table new.trees) (put 1 row (Has (rows_in table old.trees)))
 
 -- What a join writes: the campaign row, the faction, its unit, which came last, its report, and what joining booked.
--- The campaign row has this world text, and every other row and table is as it was. If `after` lacks the faction, the
--- unit or the report, nothing is said of the table of what it lacks.
+-- The campaign row says what `after` says and has this world text, and every other row and table is as it was. If
+-- `after` lacks the faction, the unit or the report, nothing is said of the table of what it lacks.
 pub record AddsJoin (faction : ℕ) (after : CampaignValue) (text : List ℕ) (old new : Database) : Type 0 where
-  -- the campaign row is that of the campaign after the join, with this world text
   pub campaign : HasExactly (rows_in campaign_table new.trees) (λ r. r ≡ row_of_campaign text after)
-  -- the faction's row is put
   pub member : (f : Faction) → get after.factions faction ≡ Some f → HasPut faction_table (row_of_faction faction f) old new
   -- the row of the faction's unit, which came last, is put
   pub unit : (unit_number : ℕ) (u : Unit) → after.next_unit ≡ unit_number + 1 → get after.units unit_number ≡ Some u
       → HasPut unit_table (row_of_unit unit_number u) old new
-  -- the row of the faction's report is put
   pub report : (report : List ℕ) → get after.reports faction ≡ Some report
       → HasPut report_table (report_row faction report) old new
   -- the two amounts under joining, of money and of people, are written
@@ -79,8 +76,8 @@ pub record AddsJoin (faction : ℕ) (after : CampaignValue) (text : List ℕ) (o
   pub others : (part : Part) → ¬ Has (Own ∷ Factions ∷ Units ∷ Reports ∷ Books ∷ []) part
       → new.trees (table_of part).tree ≡ old.trees (table_of part).tree
 
--- a join is written (`AddsJoin`), if the table `campaign` held one row, of the second format, whatever else that row
--- said
+-- the join of `faction` is written (`AddsJoin`), and the campaign row keeps its world text, if the table `campaign`
+-- held one row, of the second format, whatever else it said
 abbrev pub WritesJoin : ℕ → CampaignValue → Database → Database → Type 0
 WritesJoin faction after old new =
     (before : CampaignRowValue) (text : List ℕ)

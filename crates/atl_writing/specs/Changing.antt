@@ -33,7 +33,8 @@ abbrev pub campaign_row_after : Bool → CampaignValue → CampaignRowValue → 
 campaign_row_after true c before = campaign_row_of c
 campaign_row_after false c before = before
 
--- the campaign row once changes are written over a row that said `before` and has this world text
+-- the campaign row, of the second format, once changes of the campaign `c` are written: if it is marked it says what
+-- `c` says, else what it said `before`; the world text stays `text`
 abbrev pub own_after : MarkedCampaign → CampaignRowValue → List ℕ → Row
 own_after c before text = campaign_row (campaign_row_after c.marks.row c.value before) text
 

@@ -1,5 +1,5 @@
 -- The rows of goods (the table `has`), of stocks and of books as lists, in the order in which they are put into empty
--- tables.
+-- tables. `n`, or `unit` where it is a number, is the number of a unit or a region; `c` is the campaign.
 use Rattle.std.specs.Prelude.{◌≡◌, ◌≢◌, ◌==◌, ◌+◌, ◌++◌, ℕ, pos, List, [], ◌∷◌, Some, ⊤, take, if◌then◌else◌}
 use Rattle.std.specs.List.{flat_map}
 use Rattle.std.specs.Ordering.{int_eq, nat_cmp}
@@ -79,7 +79,7 @@ all_stocks_lines regions = groups_of region_stock_lines regions
 
 -- ---- the books
 
--- the row of `books` for one entry and thing, or none if the amount is 0
+-- the row of `books` for the campaign's amount of one entry and thing, or none if the amount is 0
 abbrev pub amount_lines : CampaignValue → BooksEntry → Thing → List Row
 amount_lines c entry thing =
     if int_eq (amount_in c.books entry thing) (pos 0) then []

@@ -36,7 +36,7 @@ abbrev pub region_and_item_pass : (ℕ → ℕ → Bool) → Row → Bool
 region_and_item_pass is_so (Int (pos region) ∷ Int (pos item) ∷ row) = is_so region item
 region_and_item_pass is_so row = false
 
--- whether the first column of a row is a marked number
+-- whether the first column of a row is a marked number, one of `marks`
 abbrev pub begins_marked : FinSet nat_cmp → Row → Bool
 begins_marked marks r = first_column_passes (contains marks) r
 

@@ -16,8 +16,8 @@ use Rattle.atl_writing.specs.Rows.{campaign_row_of, row_of_faction, row_of_unit,
 use Rattle.atl_descriptions.specs.Statements.{Statements, OneStatement, Creations, campaign_upsert, upgrading_upsert, deletion, upsert}
 use Rattle.atl_descriptions.specs.Tables.{Part, Markets, books_table, creation_of, faction_table, IsGroupedPart, key_width_of, mail_table, report_table, table_of, unit_table}
 
--- the statement, with its parameters, that writes an amount of the books: it puts the amount's row, or deletes the row
--- if the amount is 0
+-- the statement, with its parameters, that writes the campaign's amount of `entry` and `thing`: it puts the amount's
+-- row, or deletes the row if the amount is 0
 pub data OfAmount (c : CampaignValue) (entry : BooksEntry) (thing : Thing) : List ℕ → Row → Type 0 where
   puts_amount : amount_in c.books entry thing ≢ pos 0
       → OfAmount c entry thing (upsert books_table 2)
@@ -39,12 +39,11 @@ pub data OfRow (c : CampaignValue) : List ℕ → Row → Type 0 where
 
 -- ---- the statements of each write
 
--- the statements of a founding: they make the tables, and put the campaign row and the rows of the campaign
+-- the statements of a founding: they make the tables, and put the campaign row and the other rows of the campaign
 pub data OfFounding (text : List ℕ) (c : CampaignValue) : List ℕ → Row → Type 0 where
   founds_tables : {sql : List ℕ} {params : Row} → Creations sql params → OfFounding text c sql params
   -- the campaign row is put, with the world text
   founds_head : OfFounding text c campaign_upsert (campaign_row_values (campaign_row_of c) text)
-  -- a row of the campaign other than the campaign row is put
   founds_row : {sql : List ℕ} {params : Row} → OfRow c sql params → OfFounding text c sql params
 
 -- The statements of a change: put the campaign row or another row of the campaign, or delete rows.
@@ -53,15 +52,14 @@ pub data OfFounding (text : List ℕ) (c : CampaignValue) : List ℕ → Row →
 pub data OfChange (c : CampaignValue) : List ℕ → Row → Type 0 where
   -- the campaign row is put; a row that is there keeps its world text
   changes_head : OfChange c campaign_upsert (campaign_row_values (campaign_row_of c) [])
-  -- a row of the campaign other than the campaign row is put
   changes_row : {sql : List ℕ} {params : Row} → OfRow c sql params → OfChange c sql params
   -- the row with this key is deleted from the part's table: the campaign has no row with the key (`HasNoRow`)
   drops_row : (part : Part) {key : Row} → HasNoRow c part key → OfChange c (deletion (table_of part) (key_width_of part)) key
   -- all rows of one unit are deleted from the table `has`, or all rows of one region from `market`
   drops_group : (part : Part) {n : ℕ} → IsGroupedPart part → OfChange c (deletion (table_of part) 1) (int n ∷ [])
 
--- the statements of an upgrade: make the table `market`, and set the second format and the new world text in the
--- campaign row
+-- the statements of an upgrade: make the table `market`, and set the second format and the new world text `text` in the
+-- campaign row; nothing else of a row that is there changes
 pub data OfUpgrade (text : List ℕ) (c : CampaignValue) : List ℕ → Row → Type 0 where
   upgrades_tables : OfUpgrade text c (creation_of Markets) []
   upgrades_head : OfUpgrade text c upgrading_upsert (campaign_row_values (campaign_row_of c) text)
@@ -71,20 +69,16 @@ pub data OfUpgrade (text : List ℕ) (c : CampaignValue) : List ℕ → Row → 
 pub data OfJoining (faction : ℕ) (c : CampaignValue) : List ℕ → Row → Type 0 where
   -- the campaign row is put; a row that is there keeps its world text
   joins_head : OfJoining faction c campaign_upsert (campaign_row_values (campaign_row_of c) [])
-  -- the faction's row is put
   joins_faction : {f : Faction} → get c.factions faction ≡ Some f
       → OfJoining faction c (upsert faction_table 1) (row_of_faction faction f)
   -- the row of the faction's unit, which came last, is put
   joins_unit : {unit_number : ℕ} {u : Unit} → c.next_unit ≡ unit_number + 1 → get c.units unit_number ≡ Some u
       → OfJoining faction c (upsert unit_table 1) (row_of_unit unit_number u)
-  -- the row of the faction's report is put
   joins_report : {text : List ℕ} → get c.reports faction ≡ Some text
       → OfJoining faction c (upsert report_table 1) (report_row faction text)
-  -- the money booked under joining is written
   joins_money : {sql : List ℕ} {params : Row} → OfAmount c Joining Money sql params → OfJoining faction c sql params
-  -- the people booked under joining are written
   joins_people : {sql : List ℕ} {params : Row} → OfAmount c Joining People sql params → OfJoining faction c sql params
 
--- the one statement of a mailing: it puts the faction's mail
+-- the one statement of a mailing: it puts `text` as the mail of the faction with this number
 abbrev pub OfMail : ℕ → List ℕ → Statements
 OfMail faction text = OneStatement (upsert mail_table 1) (mail_row faction text)

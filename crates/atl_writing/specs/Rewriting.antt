@@ -39,8 +39,8 @@ equals_number n k = eq_by_cmp nat_cmp k n
 abbrev pub is_among : List ℕ → ℕ → Bool
 is_among ns k = list_any (eq_by_cmp nat_cmp k) ns
 
--- whether a row of `books` is of an amount whose number is in `marks`, whose entry passes the test `entries`, and whose
--- thing passes `things`, both by their indexes
+-- whether a row of `books` is of an amount whose number is in `marks`, whose entry passes the test `entries` by its
+-- index, and whose thing passes the test `things` by its number
 abbrev pub is_of_marked_amount : FinSet nat_cmp → (ℕ → Bool) → (ℕ → Bool) → Row → Bool
 is_of_marked_amount marks entries things r =
     entry_and_thing_pass (λ entry thing. entries entry && (things thing && contains marks (entry_count * thing + entry))) r
@@ -71,12 +71,12 @@ abbrev pub RewritesMarked : {V : Type 0} → Table → (ℕ → V → Row) → F
 RewritesMarked table line values marks old new = Rewrites table (begins_marked marks) (RowsOf line values) old new
 
 -- in one table the rows of one unit or region, whose key begins with its number `n`, become those of the set `Wanted`
--- that begin with it; all others stay
+-- that begin with `n`; all other rows and tables stay
 abbrev pub RewritesGroup : Table → Set → ℕ → Database → Database → Type 0
 RewritesGroup table Wanted n old new = Rewrites table (first_column_passes (equals_number n)) Wanted old new
 
--- in one table the rows whose key begins with the number of a marked unit or region become those of the set `Wanted`
--- that begin so; all others stay
+-- in one table the rows whose key begins with a number of `marks`, of a unit or a region, become those of the set
+-- `Wanted` that begin so; all other rows and tables stay
 abbrev pub RewritesGroups : Table → Set → FinSet nat_cmp → Database → Database → Type 0
 RewritesGroups table Wanted marks old new = Rewrites table (begins_marked marks) Wanted old new
 
@@ -103,8 +103,8 @@ marked_things marks Skill = marks.skills
 abbrev pub RewritesGoods : MarkedCampaign → Database → Database → Type 0
 RewritesGoods c old new = Rewrites has_table (goods_marked c.marks) (HasRowsOf c.value.units) old new
 
--- the rows of `books` of the marked amounts whose entry passes `entries` and thing `things` become the campaign's; all
--- other rows and tables stay
+-- the rows of `books` of the marked amounts, whose entry passes the test `entries` by its index and whose thing passes
+-- `things` by its number, become the campaign's; all other rows and tables stay
 abbrev pub RewritesAmounts : MarkedCampaign → (ℕ → Bool) → (ℕ → Bool) → Database → Database → Type 0
 RewritesAmounts c entries things old new =
     Rewrites books_table (is_of_marked_amount c.marks.books entries things) (BooksRowsOf c.value.books) old new
@@ -114,8 +114,7 @@ abbrev pub RewritesBooks : MarkedCampaign → Database → Database → Type 0
 RewritesBooks c old new = Rewrites books_table (amount_marked c.marks.books) (BooksRowsOf c.value.books) old new
 
 -- If `campaign` held one row, of the second format, it then says what the campaign says if it is marked, else what it
--- said before.
--- The world text of the row stays, and every other table is as it was.
+-- said before. The world text of the row stays, and every other table is as it was.
 abbrev pub RewritesCampaignRow : MarkedCampaign → Database → Database → Type 0
 RewritesCampaignRow c old new =
     (before : CampaignRowValue) (text : List ℕ)
@@ -141,7 +140,7 @@ abbrev pub RewritesPart : MarkedCampaign → Part → Database → Database → 
 RewritesPart c part = RewritesParts c (part ∷ [])
 
 -- If `campaign` held one row, of the second format, the marked rows of the listed parts become those of the campaign;
--- all other rows stay. The campaign row may be among the parts.
+-- all other rows stay. The campaign row may be among the parts (`own_after`): it keeps its world text.
 abbrev pub RewritesWithOwn : MarkedCampaign → List Part → Database → Database → Type 0
 RewritesWithOwn c parts old new =
     (before : CampaignRowValue) (text : List ℕ)

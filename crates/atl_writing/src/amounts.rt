@@ -1,4 +1,5 @@
-//! Writes the amounts of one owner, row by row: a unit's goods, or a region's stocks.
+//! Writes the amounts of one owner, row by row: a unit's goods, or a region's stocks. Each call is
+//! a step of a transaction: an error is one that the database gave.
 ghost use Rattle.std.specs.Prelude.{ℕ};
 ghost use Rattle.sqlite.specs.Order.{Row as SqlRow};
 ghost use Rattle.sqlite.specs.Table.{Table};
@@ -46,7 +47,7 @@ fn put_nonzero<O: AmountWriter, S: Alter>(
     owner.put(tx, thing, amount)
 }
 
-/// Puts the rows of all amounts of an owner that are not 0.
+/// Puts the rows of all amounts of an owner that are not 0: `amounts` has them by thing.
 pub(crate) fn put_amounts<O: AmountWriter, S: Alter>(
     tx: &mut Transaction<'_, S>,
     owner: O,

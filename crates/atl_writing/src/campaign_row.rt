@@ -32,7 +32,7 @@ fn own_row(campaign: &Campaign) -> CampaignRow<'_>
 }
 
 /// Without a campaign row, inserts it, in the second format, with this world text. A row of the
-/// second format that is there becomes the campaign's; its own world text stays.
+/// second format, if it is the only one, becomes the campaign's; its own world text stays.
 pub fn put_campaign_row<S: Alter>(
     tx: &mut Transaction<'_, S>,
     campaign: &Campaign,
@@ -49,8 +49,8 @@ pub fn put_campaign_row<S: Alter>(
     put_campaign(tx, &row, world)
 }
 
-/// Gives the campaign row the second format and this world text. It has to be the row of `campaign`
-/// in the first format.
+/// Gives the campaign row the second format and this world text. It has to be the only row, and
+/// that of `campaign` in the first format, with any world text.
 pub(crate) fn upgrade_campaign_row<S: Alter>(
     tx: &mut Transaction<'_, S>,
     campaign: &Campaign,
@@ -81,7 +81,7 @@ pub(crate) fn rewrite_campaign_row<S: Alter>(
     Ok(())
 }
 
-/// Whether a campaign row has the id of each campaign row, and the number of a format.
+/// Whether a campaign row has the id 1, as each campaign row has to, and the number of `format`.
 pub fn has_id_and_format(head: &StoredCampaignRow, format: Format) -> bool
     ensures { IsTrue result ↔
         ((head.now.id ≡ pos 1) × (head.now.format ≡ pos (format_number format))) }

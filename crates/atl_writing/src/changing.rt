@@ -20,8 +20,8 @@ fn rewrite_parts<S: Alter>(tx: &mut Transaction<'_, S>, campaign: &Campaign) -> 
     OtherParts::rewrite(tx, campaign)
 }
 
-/// Makes the rows with marked keys those of the campaign, in one transaction; a row that it lacks
-/// is deleted. All other rows, and the world text, stay. `conn` has to be in no transaction, with
+/// Makes the rows with marked keys those of the campaign, in one transaction: one that it lacks is
+/// deleted. All other rows, and the world text, stay. `conn` has to be in no transaction, with
 /// the ten tables and one row in the table `campaign`, of the second format. The books may have no
 /// more things than a world can have. After an error the tables are as at the last commit, if the
 /// connection is still open. All this is promised on a clean disk (docs/PROVED.md, "Premises").

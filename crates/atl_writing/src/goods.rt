@@ -1,5 +1,5 @@
 //! Writes what units have into the table `has`: a row for each item and each skill of a unit whose
-//! amount is not 0.
+//! amount is not 0. Each call is a step of a transaction: an error is one that the database gave.
 ghost use Rattle.std.specs.Prelude.{refl};
 ghost use Rattle.atl_descriptions.specs.Tables.{Goods, has_table};
 ghost use Rattle.atl_sql.specs.Shown.{has_row};
@@ -43,7 +43,6 @@ struct UnitThings {
     sort: ThingKind,
 }
 
-/// Puts each item or skill as a row of `has`, whose key is unit, kind and thing.
 impl AmountWriter for UnitThings {
     ghost table = { has_table };
 
@@ -95,7 +94,6 @@ pub(crate) fn put_all_goods<S: Alter>(
     Ok(())
 }
 
-/// Rewrites all items and skills of a unit: its rows of `has`, whose key begins with its number.
 impl Grouped for Unit {
     ghost part = { Goods };
 
@@ -126,8 +124,8 @@ impl Grouped for Unit {
     }
 }
 
-/// Puts or deletes the marked rows of `has`: first those of units whose goods are all marked, then
-/// those of items, and then of skills, that are marked one by one.
+/// Puts the marked rows of `has`, or deletes those that the campaign lacks: first of units whose
+/// goods are all marked, then of items, and then of skills, that are marked one by one.
 pub(crate) fn rewrite_goods<S: Alter>(
     tx: &mut Transaction<'_, S>,
     campaign: &Campaign,

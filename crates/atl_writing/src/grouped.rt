@@ -1,4 +1,5 @@
-//! Rewrites all rows that a unit or a region has in a table: they are deleted and put again.
+//! Rewrites all rows that a unit or a region has in a table: they are deleted and put again. Each
+//! write is a step of a transaction: an error is one that the database gave.
 ghost use Rattle.std.specs.Prelude.{◌≡◌, ℕ, suc, List, [], ◌∷◌};
 ghost use Rattle.std.specs.Ordering.{nat_cmp};
 ghost use Rattle.std.specs.FinSet.{FinSet};
@@ -53,8 +54,8 @@ pub(crate) trait Grouped: NumberedRow {
     fn marked_groups(campaign: &Campaign) -> MarkedNumbers<'_>
         ensures { IsAscendingListOf (marks campaign.now.marks) result };
 
-    /// Inserts the rows of this unit's goods, or of this region's stocks, or changes the rows with
-    /// the same keys.
+    /// Inserts the rows of the goods of this unit, or of the stocks of this region, which has this
+    /// number, or changes the rows with the same keys.
     fn put_rows<S: Alter>(&self, tx: &mut Transaction<'_, S>, number: u32) -> Result<(), Error>
         ensures { WritesRows S.Store (table_of part) (suc more) (lines number self.now) result
             tx.old.conn tx.new.conn };

@@ -1,4 +1,5 @@
-//! Writes the books, one row for each entry and thing whose amount is not 0.
+//! Writes the books, one row for each entry and thing whose amount is not 0. Each call is a step of
+//! a transaction: an error is one that the database gave.
 ghost use Rattle.std.specs.Prelude.{◌<◌, ◌≤◌, map};
 ghost use Rattle.std.specs.List.{range_with_len};
 ghost use Rattle.atl_records.specs.Limits.{most_things};
@@ -48,8 +49,8 @@ fn put_amount<S: Alter>(
     put_booked(tx, entry.number(), thing.number(), amount)
 }
 
-/// Puts the row of an amount of the books, or deletes the row if the amount is 0, as a step of a
-/// transaction. The thing has to be one of the books'. An error is one that the database gave.
+/// Puts the row of an amount of the books, or deletes the row if the amount is 0. The thing has to
+/// be one of the books'.
 pub fn write_amount<S: Alter>(
     tx: &mut Transaction<'_, S>,
     campaign: &Campaign,
@@ -85,7 +86,8 @@ fn put_entries<S: Alter>(
 }
 
 /// Puts the rows of all amounts of the books that are not 0, one thing after another. The books
-/// list only such amounts, and only of their own things (`AreBooks`).
+/// list only such amounts, and only of their own things (`AreBooks`). They may have no more things
+/// than a world can have.
 pub(crate) fn put_all_books<S: Alter>(
     tx: &mut Transaction<'_, S>,
     campaign: &Campaign,
@@ -137,7 +139,8 @@ fn rewrite_entries<S: Alter>(
     Ok(())
 }
 
-/// Puts the rows of all marked amounts of the books, and deletes the rows of those that are 0.
+/// Puts the rows of all marked amounts of the books, and deletes the rows of those that are 0. The
+/// books may have no more things than a world can have.
 pub(crate) fn rewrite_books<S: Alter>(
     tx: &mut Transaction<'_, S>,
     campaign: &Campaign,

@@ -1,4 +1,5 @@
-//! Writes the stocks of markets, one row for each region and item whose stock is not 0.
+//! Writes the stocks of markets, one row for each region and item whose stock is not 0. Each call
+//! is a step of a transaction: an error is one that the database gave.
 ghost use Rattle.std.specs.Prelude.{refl};
 ghost use Rattle.atl_descriptions.specs.Tables.{Markets, market_table};
 ghost use Rattle.atl_sql.specs.Shown.{market_row};
@@ -38,7 +39,6 @@ struct RegionStocks {
     region: u32,
 }
 
-/// Puts each stock as a row of `market`, whose key is region and item.
 impl AmountWriter for RegionStocks {
     ghost table = { market_table };
 
@@ -82,7 +82,6 @@ pub(crate) fn put_all_stocks<S: Alter>(
     Ok(())
 }
 
-/// Rewrites all stocks of a region: its rows of `market`, whose key begins with its number.
 impl Grouped for Region {
     ghost part = { Markets };
 
@@ -117,7 +116,6 @@ impl Grouped for Region {
 #[derive(Clone, Copy)]
 struct SingleStocks;
 
-/// Rewrites stocks that are marked one by one: each has a row of `market`, by region and item.
 impl SingleAmounts for SingleStocks {
     ghost table = { market_table };
 
@@ -146,8 +144,8 @@ impl SingleAmounts for SingleStocks {
     }
 }
 
-/// Puts or deletes the marked rows of `market`: first those of regions whose stocks are all marked,
-/// then those of stocks that are marked one by one.
+/// Puts the marked rows of `market`, or deletes those that the campaign lacks: first of regions
+/// whose stocks are all marked, then of stocks that are marked one by one.
 pub(crate) fn rewrite_stocks<S: Alter>(
     tx: &mut Transaction<'_, S>,
     campaign: &Campaign,

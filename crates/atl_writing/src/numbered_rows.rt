@@ -1,5 +1,6 @@
 //! The six tables whose key is a number, such as `faction`: the rows that a campaign has in them,
-//! and how these are put and deleted.
+//! and how these are put and deleted. Each write is a step of a transaction: an error is one that
+//! the database gave.
 ghost use Rattle.std.specs.Prelude.{◌≡◌, ◌↔◌, ℕ, [], ◌∷◌, take};
 ghost use Rattle.std.specs.Ordering.{nat_cmp};
 ghost use Rattle.std.specs.Option.{option_copied};
@@ -28,8 +29,7 @@ pub(crate) use mail::put_mail;
 use sqlite::{Alter, Error, Transaction};
 
 /// A type, such as `Faction`, each of whose values has a number and one row in a table, with the
-/// number as its key. `put` and `take_out` are steps of a transaction: an error is one that the
-/// database gave.
+/// number as its key.
 pub trait NumberedRow: Sized {
     // The part of a campaign that has a row for each value of the type.
     ghost part: { Part };

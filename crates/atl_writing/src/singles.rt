@@ -1,4 +1,5 @@
-//! Writes the marked single amounts of units and regions, row by row.
+//! Writes the marked single amounts of units and regions, row by row, in steps of a transaction: an
+//! error is one that the database gave.
 ghost use Rattle.std.specs.Prelude.{◌≡◌, ℕ, Bool};
 ghost use Rattle.std.specs.FinMap.{entries};
 ghost use Rattle.sqlite.specs.Order.{Row as SqlRow};
@@ -30,7 +31,7 @@ pub(crate) trait SingleAmounts: Copy {
     // The single amounts that are marked, by the numbers of owner and thing.
     ghost marks: { Self → Marks → MarkedThings };
 
-    /// The single amounts that are marked, by the numbers of owner and thing, in rising order.
+    /// For each owner with marked single amounts, in rising order, the numbers of their things.
     fn marked_singles(self, campaign: &Campaign) -> Entries<'_, Numbered<()>>
         ensures { result ≡ entries (marks self campaign.now.marks) };
 

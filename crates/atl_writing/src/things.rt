@@ -50,8 +50,6 @@ fn rewrite_thing<S: Alter>(
     put_thing(tx, unit, sort, thing, amount)
 }
 
-/// Rewrites items, or skills, that are marked one by one: each has a row of `has`, by its unit, its
-/// kind and its number.
 impl SingleAmounts for ThingKind {
     ghost table = { has_table };
 

@@ -1,4 +1,5 @@
-//! Writes the parts of a campaign but the campaign row, each into its table, one after another.
+//! Writes the parts of a campaign but the campaign row, each into its table, one after another, in
+//! steps of a transaction: an error is one that the database gave.
 ghost use Rattle.std.specs.Prelude.{◌≤◌, ◌++◌, List, [], ◌∷◌};
 ghost use Rattle.atl_records.specs.Limits.{most_things};
 ghost use Rattle.atl_descriptions.specs.Tables.{Part, Units, Goods, Books, Markets};
@@ -54,7 +55,8 @@ pub(crate) trait WrittenPart {
     // The parts that are written, in their order.
     ghost parts: { List Part };
 
-    /// Puts all rows of the type's parts into their tables, which have no row.
+    /// Puts all rows of the type's parts into their tables. A table that was empty then has exactly
+    /// these rows.
     fn fill<S: Alter>(tx: &mut Transaction<'_, S>, campaign: &Campaign) -> Result<(), Error>
         requires { campaign.now.value.books.things ≤ most_things }
         ensures { Writes S.Store (OfRow campaign.now.value)
@@ -70,7 +72,6 @@ pub(crate) trait WrittenPart {
             tx.new.conn };
 }
 
-/// Writes the parts of `X`, and then those of `Y`.
 impl<X: WrittenPart, Y: WrittenPart> WrittenPart for (X, Y) {
     ghost parts = { X.parts ++ Y.parts };
 
@@ -85,7 +86,6 @@ impl<X: WrittenPart, Y: WrittenPart> WrittenPart for (X, Y) {
     }
 }
 
-/// Writes the things of a kind `V`, which the campaign holds in a map: one row under each number.
 impl<V: Mapped + Drop> WrittenPart for Numbered<V> {
     ghost parts = { V.NumberedRow.part ∷ [] };
 

@@ -10,7 +10,6 @@ use atl_sql::rows::{put, take_out_number};
 use atl_world::{Entries, MarkedNumbers};
 use sqlite::{Alter, Error, Transaction, params};
 
-/// Its row has its number, names and pass text, and whether it is gone.
 impl NumberedRow for Faction {
     ghost part = { Factions };
 

@@ -1,4 +1,4 @@
-//! The mailings of a campaign as rows of `mail`.
+//! The mailings of a campaign as rows of `mail`. An error is one that the database gave.
 ghost use Rattle.std.specs.Prelude.{refl};
 ghost use Rattle.atl_descriptions.specs.Tables.{Mail, mail_table};
 ghost use Rattle.atl_sql.specs.Shown.{mail_row};
@@ -23,7 +23,6 @@ pub(crate) fn put_mail<S: Alter>(
     put::<StoredMail, S>(tx, params![faction, text])
 }
 
-/// Its row has its faction's number, and the mailing byte for byte.
 impl NumberedRow for Sequence<u8> {
     ghost part = { Mail };
 

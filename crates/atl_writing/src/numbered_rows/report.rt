@@ -10,7 +10,6 @@ use atl_sql::rows::{put, take_out_number};
 use atl_world::{Entries, MarkedNumbers, Text};
 use sqlite::{Alter, Error, Transaction, params};
 
-/// Its row has its faction's number, and the report.
 impl NumberedRow for Text {
     ghost part = { Reports };
 

@@ -10,7 +10,6 @@ use atl_sql::rows::{put, take_out_number};
 use atl_world::{Entries, MarkedNumbers};
 use sqlite::{Alter, Error, Transaction, params};
 
-/// Its row has its number, kind, name and region, how much of it is done, and its owner.
 impl NumberedRow for Structure {
     ghost part = { Structures };
 
