@@ -47,11 +47,12 @@ pub record Gives (added : Bool → Task → List Report) (meaning : Meaning) : T
   pub readings : (w : WorldValue) (c : CampaignValue) (m : MonthValue) → (meaning w c m).1.readings ≡ m.readings
   pub aliases : (w : WorldValue) (c : CampaignValue) (m : MonthValue) → (meaning w c m).1.aliases ≡ m.aliases
 
--- the report of an order, if the test holds
+-- the report of an order, if the test holds, and else none
 abbrev pub report_if : Bool → Task → List Report
 report_if b t = cond b (report_for t ∷ []) []
 
--- two phases in turn add what the first adds (a), and then what the second adds (b)
+-- if the phase `first` adds `a` to the events of an order, and `second` adds `b` (`Gives`), both in turn add `a` and
+-- `b`
 pub gives_both : {a b : Bool → Task → List Report} {first second : Meaning} → Gives a first → Gives b second
     → Gives (λ counts t. a counts t ++ b counts t) (then_also first second)
 gives_both {a} {b} {first} {second} one two = record {
@@ -85,9 +86,9 @@ pub one_reported : (t : Task) (b : Bool) → map report_for (cond b (t ∷ []) [
 one_reported t true = refl
 one_reported t false = refl
 
--- Of the reports of a phase's orders just that of order t is of t's faction and on t's line, if t has a verb of the
--- phase and counts in its mailing (`order_counts`). Otherwise none is. For this t is in the mailing of its faction, and
--- the mailings can be read with the world.
+-- Of the reports of a phase's orders, sorted as `a` says, just that of order t is of t's faction and on t's line, if t
+-- has a verb of the phase and counts in its mailing (`order_counts`). Otherwise none is. For this t is in the mailing
+-- of its faction, and the mailings can be read with the world.
 pub report_in_phase : (w : WorldValue) (m : MonthValue) (aliases : Aliases) (readings : FinMap nat_cmp Reading)
     → m.aliases ≡ aliases → m.readings ≡ readings → AreFit w readings
     → (t : Task) (there : IsInMailing aliases readings t) (is_of : Verb → Bool) (a : Arrangement)

@@ -1,5 +1,5 @@
--- Laws of changes of a campaign that mark all that they change (`MarksChanges`). In the laws campaign a or c is before
--- a change, and b or d after it.
+-- Laws of changes of a campaign that mark all that they change and lose no mark (`MarksChanges`). In the laws campaign
+-- a or c is before a change, and b or d after it.
 use Rattle.std.proofs.Common.{◌≡◌, ◌==◌, ℕ, Bool, true, false, Option, Some, None, refl, sym, ◌∙◌}
 use Rattle.std.specs.Prelude.{ℤ, Result, Ok, Err, OnOk, if◌then◌else◌}
 use Rattle.std.specs.FinMap.{get}
@@ -15,7 +15,7 @@ use Rattle.atl_campaign.proofs.HoldingLaws.{marks-unit_row}
 use Rattle.atl_campaign.proofs.LeavingLaws.{marks-after_handover}
 use Rattle.atl_campaign.proofs.OwnerLaws.{place-what}
 
--- if all that changed from a to m is marked (`MarksChanges`), so it is from a to b, which has the value and marks of m
+-- if all that changed from a to m is marked (`MarksChanges`), so is all from a to b, which has the value and marks of m
 pub marks_by : (a b m : MarkedCampaign) → b.value ≡ m.value → b.marks ≡ m.marks → MarksChanges a m → MarksChanges a b
 marks_by a b m what marks h = rw (what, marks) (record { stay = h.stay; covers = h.covers })
 

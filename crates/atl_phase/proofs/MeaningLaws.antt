@@ -1,5 +1,5 @@
 -- Laws of phases and steps in turn: what holds after them, how far they move the books, and what room that needs.
--- Campaigns are of the same month (`IsSameMonth`) if month, reports and numbers of factions are equal. A phase leaves
+-- Campaigns are of the same month (`IsSameMonth`) if month, reports and the set of factions are equal. A phase leaves
 -- well (`LeavesWell`) if the campaign after it satisfies `leaves`, is of the same month, has its books in balance if
 -- they were before, and no amount moved further than its bound. In the laws j and k bound how far amounts move; a, b
 -- and c are an amount or a campaign before, between and after two moves.
@@ -84,7 +84,7 @@ same_month_among {c} {d} same count factions = record {
   factions = factions;
 }
 
--- all that stays of a campaign within a month: the month last closed, the reports and the factions
+-- the number of the month last closed, the reports, and the factions of a campaign
 abbrev pub kept_in_month : CampaignValue → (ℕ × FinMap nat_cmp (List ℕ)) × FinMap nat_cmp Faction
 kept_in_month c = (counted_month c, c.factions)
 

@@ -111,8 +111,9 @@ sorted_by_order_keys : (a : Arrangement) (ms : List Mailing) (list : List OrderI
 sorted_by_order_keys ByUnit ms list up = up
 sorted_by_order_keys ByFaction ms list up = up
 
--- The indices `os` of all orders that count, once sorted by their own keys into `list`, name these orders as the
--- arrangement sorts them (`AreOrderIndices`). For this the mailings are sorted by faction, no two of one faction.
+-- The indices `os` name all orders that count and have a verb that passes `is_of`, mailing by mailing. Sorted by their
+-- own keys into `list`, they name these orders as arrangement `a` sorts them (`AreOrderIndices`). For this the mailings
+-- are sorted by faction, no two of one faction.
 pub sorted_places : (is_of : Verb → Bool) (a : Arrangement) (aliases : Aliases) (ms : List Mailing) (os list : List OrderIndex)
     → AreByFaction ms → AreIndicesByMailing is_of aliases ms os → IsPermutation os list
     → IsSortedByKey (key_by a) (slice_cmp nat_cmp) list

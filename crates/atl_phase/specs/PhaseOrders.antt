@@ -19,8 +19,7 @@ use Rattle.atl_phase.specs.declared.phase_order.PhaseOrder.{PhaseOrder}
 use Rattle.atl_phase.specs.declared.phase_order.Arrangement.{Arrangement}
 use Rattle.atl_phase.specs.declared.phase_order.Arrangement.TheVariants.{ByUnit, ByFaction}
 
--- An order of a mailing: its faction, the unit that it is for, its line, its index, and what it says.
--- The index is the one among the orders of the mailing, from 0 on.
+-- An order of a mailing.
 pub record Task : Type 0 where
   -- the number of the faction that wrote the order
   pub faction : ℕ

@@ -12,13 +12,10 @@ use Rattle.atl_phase.specs.Unbooked.{moves_nothing}
 
 -- ---- the books
 
--- the entries of the books that a phase may move: those of money, of people and of items
+-- the entries of the books under which a phase may move money, people and items
 pub record MovedEntries : Type 0 where
-  -- the entries under which the phase may move money
   pub money : List BooksEntry
-  -- the entries under which the phase may move people
   pub people : List BooksEntry
-  -- the entries under which the phase may move items
   pub items : List BooksEntry
 
 -- no entries, for a phase that moves no amount of the books
@@ -90,7 +87,7 @@ books_money_and_people money people meaning keeps = record {
 
 -- ---- some phases, one after the other
 
--- the effect of the phases of a list, one after the other
+-- the effect of the phases of a list, one after the other; where there are none, nothing changes
 abbrev pub meaning_of : List PhaseSpec → Meaning
 meaning_of [] = λ w c m. (c, m)
 meaning_of (phase ∷ []) = phase.meaning

@@ -68,8 +68,10 @@ pub trait OrderPhase: PhaseVerbs {
             campaign.old.value order.entry.faction order.entry.unit) }
         ensures marks { OnOk result (MarksChanges campaign.old campaign.new) };
 
-    /// The law of what each order of the phase keeps, how far it moves the books, and that each
-    /// unit which it doesn't affect is left as `unaffected` says (`IsOrderly`). Does nothing.
+    /// The law that an order which can be read with the world, for a unit of its writer's faction,
+    /// keeps `holds`, the month and the balance, and moves no amount further than `remaining`
+    /// falls. Each unit that it doesn't affect is there after it, as `unaffected` says. For this
+    /// `holds` is true before. No `remaining` is above `book_bound` then. Does nothing.
     fn is_orderly(&self)
         ensures { IsOrderly (step self.now) holds remaining book_bound affects unaffected };
 }
