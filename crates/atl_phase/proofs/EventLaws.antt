@@ -51,8 +51,7 @@ pub record Gives (added : Bool → Task → List Report) (meaning : Meaning) : T
 abbrev pub report_if : Bool → Task → List Report
 report_if b t = cond b (report_for t ∷ []) []
 
--- if the phase `first` adds `a` to the events of an order, and `second` adds `b` (`Gives`), both in turn add `a` and
--- `b`
+-- where `first` adds a and `second` adds b to an order's events (`Gives`), both in turn add a and then b
 pub gives_both : {a b : Bool → Task → List Report} {first second : Meaning} → Gives a first → Gives b second
     → Gives (λ counts t. a counts t ++ b counts t) (then_also first second)
 gives_both {a} {b} {first} {second} one two = record {

@@ -38,8 +38,7 @@ mailings_have_no_order ms ns apart p =
     ∙ from_entries-permutation nat_cmp_total nat_cmp-IsAntisymmetric (map under_faction ms) (map under_faction ns) (IsPermutation-map under_faction ms ns p) (IsDistinct-map under_faction (λ e f. eq_by_cmp nat_cmp e.0 f.0) ms differ)
     ∙ sym (by_faction_is ns)
 
--- mailings of different factions (`ms`) are strictly sorted by faction (`AreByFaction`) once they are sorted by it
--- (`ns`)
+-- mailings of different factions (`ms`), once sorted by faction into `ns`, are strictly sorted by it (`AreByFaction`)
 pub sorted_by_faction : (ms ns : List Mailing) → HaveOwnFactions ms → IsPermutation ms ns
     → IsSortedByKey (λ m. m.faction) nat_cmp ns → AreByFaction ns
 sorted_by_faction ms ns apart p =

@@ -49,9 +49,8 @@ moved_within (phase ∷ next ∷ rest) each e t =
 abbrev pub PhaseLeavesUnmailed : PhaseSpec → Type 0
 PhaseLeavesUnmailed phase = LeavesUnmailed phase.meaning phase.keeps
 
--- All phases but the last leave units of factions without a mailing as `PhaseLeavesUnmailed` says. So does the last,
--- but it may change the mailings, and removes a unit all of whose men starve (`ClosesUnmailed`). No empty list has
--- this.
+-- All phases but the last do as `PhaseLeavesUnmailed` says. So does the last, but it may change the mailings, and
+-- removes a unit all of whose men starve (`ClosesUnmailed`). No empty list has this.
 abbrev pub CloseTogether : List PhaseSpec → Type 0
 CloseTogether [] = ⊥
 CloseTogether (phase ∷ []) = ClosesUnmailed phase.meaning phase.keeps

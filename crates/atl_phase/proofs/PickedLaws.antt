@@ -34,8 +34,7 @@ filter-map p f (x ∷ xs) =
       | false ↦ rest
     ]
 
--- to sort the orders that pass a test p by their keys (`key_of`) is to sort all orders and keep those that pass, if no
--- two have one key (`same_key`)
+-- to sort by `key_of` what passes a test p is to sort all and keep what passes, if no two orders have one key
 pub sorted-passing : (a : Arrangement) (p : Task → Bool) (ts : List Task) → IsDistinct (same_key a) ts
     → sorted_by (key_of a) (filter p ts) ≡ filter p (sorted_by (key_of a) ts)
 sorted-passing a p ts apart =

@@ -100,7 +100,6 @@ Unaffected = Unit → Unit → Type 0
 pub record IsStillThere (unaffected : Unaffected) (after : CampaignValue) (number : ℕ) (u : Unit) : Type 0 where
   -- the unit of this number as it is in the campaign after
   pub unit : Unit
-  -- the campaign after has the unit under this number
   pub there : get after.units number ≡ Some unit
   -- `unaffected` relates u, which the unit was before, to the unit as it is after
   pub is_unaffected : unaffected u unit

@@ -41,13 +41,10 @@ may_move moved e t = is_among e (entries_of moved t)
 
 -- the specification of a phase: its effect, its bound on the books, the entries that it may move, and what it keeps
 pub record PhaseSpec : Type 1 where
-  -- the effect of the phase on campaign and month
   pub meaning : Meaning
   -- by how much the phase may move each amount of the books
   pub book_bound : BookBound
-  -- the entries of the books under which the phase may move amounts
   pub moved : MovedEntries
-  -- what the phase keeps
   pub keeps : Frame
 
 -- By its bound a phase moves the amounts of its own entries alone (`may_move`), and each by less than 10^14.

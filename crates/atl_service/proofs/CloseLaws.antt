@@ -227,8 +227,8 @@ faulty_lines_in w es = map (λ e. (e.0, faults_of (reading w e.1))) es
 abbrev faulty_lines_of_mail : WorldValue → CampaignValue → FinMap nat_cmp (List FaultyLine)
 faulty_lines_of_mail w c = map_values (λ text. faults_of (reading w text)) c.mail
 
--- before the first mailing of a good campaign is read, what was read (nothing) and what is left make the whole mail
--- (`ReadSoFar`)
+-- before the first mailing of a good campaign is read, what was read (nothing) and what is left (`all`) make the whole
+-- mail (`ReadSoFar`)
 pub read_begins : (w : WorldValue) (c : CampaignValue) (ms : List Mailing) (faults : FinMap nat_cmp (List FaultyLine)) (all : List (ℕ × List ℕ))
     → IsGood w c → all ≡ entries c.mail → ms ≡ [] → faults ≡ empty → ReadSoFar w c ms faults all
 read_begins w c ms faults all good is none none_wrong =
@@ -261,7 +261,7 @@ read_goes_on w c ms ns faults faults' here rest n text m left one_more read kept
       (subst (EachEntry IsMailingOf) left sent).1,
     )
 
--- when no mailing is left, all mail is read (`HasRead`)
+-- when what was read (`r`) and what is left (`rest`) make the whole mail, and nothing is left, all is read (`HasRead`)
 pub read_ends : (w : WorldValue) (c : CampaignValue) (r : ReadMail) (rest : List (ℕ × List ℕ)) → rest ≡ []
     → ReadSoFar w c r.mailings.items r.faults rest → HasRead w c r
 read_ends w c r rest none (mailings, all, outcome, sent) = record {

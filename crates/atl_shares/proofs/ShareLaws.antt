@@ -190,8 +190,8 @@ pub record IsRemainder (pot total before left : ℕ) : Type 0 where
   pub small : left < total
   pub whole : total * share_upto pot total before + left ≡ pot * before
 
--- The pot times the next want, plus the running remainder, divided by the sum of all wants and rounded down, is the
--- share of the next want.
+-- The pot times the next want, plus the running remainder (`left`), divided by the sum of all wants and rounded down,
+-- is the share of the next want, if that sum isn't 0.
 pub next_share : (pot total before left want : ℕ) → 0 < total → IsRemainder pot total before left →
     (pot * want + left) / total ≡ share_upto pot total (before + want) - share_upto pot total before
 next_share pot total before left want p h =
@@ -201,7 +201,7 @@ next_share pot total before left want p h =
     let split : share_upto pot total (before + want) ≡ due / total + low = ap (λ n. n / total) all ∙ add-mul-div_left due low p in
     omega arith
 
--- the remainder of the division in `next_share` is the running remainder after the want
+-- the remainder of the division in `next_share` is the running remainder after the want, if `total` isn't 0
 pub next_left : (pot total before left want : ℕ) → 0 < total → IsRemainder pot total before left →
     IsRemainder pot total (before + want) ((pot * want + left) % total)
 next_left pot total before left want p h =

@@ -46,7 +46,7 @@ to_give a = min a.left a.short
 
 -- What upkeep takes from a unit, at this maintenance for each man, by the account of its faction in its region as it is
 -- when the unit's turn comes. It gives what it has left, and gets what it is short of, each until the amount to give
--- (`to_give`) is used up.
+-- (`to_give`) is used up. The men starve for whom money is missing still.
 abbrev pub upkeep_result_by : ℕ → Account → UpkeepInput → UpkeepResult
 upkeep_result_by maintenance a input = record {
   unit = input.unit;

@@ -52,12 +52,12 @@ given_among maintenance peers =
 abbrev pub peers_before : (peers : List UpkeepInput) → UpkeepInput → List UpkeepInput
 peers_before peers input = filter (λ p. nat_lt p.unit input.unit) peers
 
--- the money that a unit gives in its turn, at this maintenance: all that it has left, until all is given
+-- the money that a unit gives in its turn, at this maintenance: all that it has left, until `given_among` is used up
 abbrev pub given_by : ℕ → (peers : List UpkeepInput) → UpkeepInput → ℕ
 given_by maintenance peers input =
     amount_in_turn (given_among maintenance peers) (sum_by (left_of maintenance) (peers_before peers input)) (left_of maintenance input)
 
--- the money that a unit gets in its turn, at this maintenance: all that it is short of, until all is given
+-- the money that a unit gets in its turn, at this maintenance: all that it is short of, until `given_among` is used up
 abbrev pub given_to : ℕ → (peers : List UpkeepInput) → UpkeepInput → ℕ
 given_to maintenance peers input =
     amount_in_turn (given_among maintenance peers) (sum_by (short_of maintenance) (peers_before peers input)) (short_of maintenance input)
