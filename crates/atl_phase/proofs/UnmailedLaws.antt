@@ -270,7 +270,7 @@ OthersHaveMen f c d = Every (λ n u. f ≢ u.faction → IsStillThere HasItsMen 
 pub others_men : (f : ℕ) (c d : CampaignValue) → HaveTheirMen c d → OthersHaveMen f c d
 others_men f c d men n u there other = men n u there
 
--- the effect of each order, for a unit of its writer's faction, leaves every unit of another faction its men
+-- the effect that `step` gives an order on a unit of its writer's faction leaves every unit of another faction its men
 -- (`OthersHaveMen`)
 abbrev pub LeavesOthersMen : OrderMeaning → Type 0
 LeavesOthersMen step =

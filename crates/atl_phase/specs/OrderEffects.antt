@@ -104,13 +104,13 @@ pub record IsStillThere (unaffected : Unaffected) (after : CampaignValue) (numbe
   -- `unaffected` relates u, which the unit was before, to the unit as it is after
   pub is_unaffected : unaffected u unit
 
--- each unit that none of the listed orders affects is still there after them, and has changed at most as `unaffected`
--- allows
+-- each unit that none of the listed orders affects (`affects`) is still there after them, and has changed at most as
+-- `unaffected` allows
 abbrev pub AreUnaffected : Affects → Unaffected → List Task → CampaignValue → CampaignValue → Type 0
 AreUnaffected affects unaffected ts before after =
     (n : ℕ) (u : Unit) → get before.units n ≡ Some u → All (λ t. affects t n u.faction → ⊥) ts → IsStillThere unaffected after n u
 
--- what a phase keeps: each unit that none of its orders affects is still there after the phase, and has changed at
--- most as `unaffected` allows
+-- what a phase keeps: each unit that none of its orders affects (`affects`) is still there after the phase, and has
+-- changed at most as `unaffected` allows
 abbrev pub others_unaffected : Affects → Unaffected → (Verb → Bool) → Frame
 others_unaffected affects unaffected is_of w m before after = AreUnaffected affects unaffected (orders_by_unit is_of m) before after

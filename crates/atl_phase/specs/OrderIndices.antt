@@ -83,7 +83,7 @@ no_entry = record { line = 0; target = Number 0; order = record { verb = Work; o
 abbrev pub mailing_at : List Mailing → ℕ → Mailing
 mailing_at mailings index = slice_index_or mailings index no_mailing
 
--- all orders of the mailing at an index of a list
+-- all orders of the mailing at an index of a list; none past the last mailing
 abbrev pub tasks_at : Aliases → List Mailing → ℕ → List Task
 tasks_at aliases mailings index = tasks_of aliases (mailing_at mailings index).faction (reading_of (mailing_at mailings index))
 
@@ -125,8 +125,8 @@ AddsMailing is_of aliases mailings index = AddsIndicesOf mailings (tasks_for is_
 abbrev pub AreIndicesByMailing : (Verb → Bool) → Aliases → List Mailing → List OrderIndex → Type 0
 AreIndicesByMailing is_of aliases mailings = AreIndicesOf mailings (all_tasks is_of aliases mailings)
 
--- the indices name orders that are there: those of all mailings that count and have one of a phase's verbs, sorted as
--- the arrangement says
+-- the indices name orders that are there: all that count and have one of a phase's verbs, sorted by unit or by faction
+-- first, as the arrangement says
 abbrev pub AreOrderIndices : (Verb → Bool) → Arrangement → Aliases → List Mailing → List OrderIndex → Type 0
 AreOrderIndices is_of arrangement aliases mailings =
     AreIndicesOf mailings (orders_of is_of arrangement aliases (by_faction (map reading_of mailings)))

@@ -51,8 +51,7 @@ pub record PhaseSpec : Type 1 where
 abbrev pub MovesItsOwn : PhaseSpec → Type 0
 MovesItsOwn phase = (e : BooksEntry) (t : Thing) → phase.book_bound e t ≤ (if may_move phase.moved e t then most_moved else 0)
 
--- the specification of a phase that has a given effect, moves no amount of the books, and keeps what the given frame
--- says
+-- the specification of a phase that has the effect `meaning`, moves no amount of the books, and keeps what `keeps` says
 abbrev pub spec_without_books : Meaning → Frame → PhaseSpec
 spec_without_books meaning keeps = record { meaning = meaning; book_bound = moves_nothing; moved = no_moved_entries; keeps = keeps }
 
@@ -62,7 +61,7 @@ abbrev pub goes_by_orders : OrderMeaning → (Verb → Bool) → Affects → Una
 goes_by_orders step is_of affects unaffected =
     spec_without_books (meaning_by_orders step is_of) (others_unaffected affects unaffected is_of)
 
--- The specification of a phase that has a given effect and keeps what the given frame says. It moves the money of one
+-- The specification of a phase that has the effect `meaning` and keeps what `keeps` says. It moves the money of one
 -- entry of the books, by at most `most_moved`, and no other amount.
 abbrev pub books_money : BooksEntry → Meaning → Frame → PhaseSpec
 books_money entry meaning keeps = record {
@@ -72,7 +71,7 @@ books_money entry meaning keeps = record {
   keeps = keeps;
 }
 
--- the specification of a phase that has a given effect and keeps what the given frame says. It moves the money of one
+-- The specification of a phase that has the effect `meaning` and keeps what `keeps` says. It moves the money of one
 -- entry of the books and the people of another, each by at most `most_moved`, and no other amount.
 abbrev pub books_money_and_people : (money people : BooksEntry) → Meaning → Frame → PhaseSpec
 books_money_and_people money people meaning keeps = record {

@@ -81,8 +81,8 @@ pub(crate) fn phase_orders_at<'m, P: PhaseVerbs>(
     Ok(list)
 }
 
-/// The law that each order of a phase is an entry of the mailing of its faction, at its index
-/// there. Does nothing.
+/// The law that each order of a phase is in the mailing of its faction, at its index there. Does
+/// nothing.
 pub fn orders_are_in_mailings()
     ensures { OrdersAreInMailings }
 {}

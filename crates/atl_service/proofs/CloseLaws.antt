@@ -170,7 +170,8 @@ active_there before after stay =
 -- ---- the month
 
 -- Storing the reports after the month's phases, with the month counted and the mail removed, gives the campaign of
--- `closed`. The phases make `after` and `events` of `c` and its mail; `faults` has each stored mailing's faulty lines.
+-- `closed`. The phases make `after` and `events` of `c`, its mail and the words of the dice (`words`); `faults` has
+-- each stored mailing's faulty lines.
 pub closed_is : (w : WorldValue) (c after : CampaignValue) (events : List Event) (words : List ℕ) (faults : FinMap nat_cmp (List FaultyLine))
     → (after, events) ≡ month_of w c (by_faction (readings w c)) words
     → faults ≡ map_values (λ text. faults_of (reading w text)) c.mail

@@ -1,5 +1,6 @@
--- For proofs alone: the accounts in which the code adds up the upkeep of a faction's units in a region; all amounts are
--- money.
+-- For proofs alone: the accounts in which the code adds up the upkeep of a faction's units in a region. An account has
+-- the money that these units have left and are short of after their own upkeep, and how much they gave (`given`) and
+-- got (`covered`) so far.
 use Rattle.std.specs.Prelude.{List, min, unwrap_or, ℕ, ◌+◌, ◌-◌, ◌≤◌, ◌==◌, if◌then◌else◌}
 use Rattle.std.specs.Ordering.{nat_cmp}
 use Rattle.std.specs.FinMap.{FinMap, get, insert}

@@ -67,8 +67,8 @@ given_to maintenance peers input =
 abbrev pub starved_of : (maintenance short : ℕ) → ℕ
 starved_of maintenance short = (short + (maintenance - 1)) / maintenance
 
--- what upkeep takes from a unit, where `peers` are the units of its faction in its region: what it pays for its own men
--- and gives, and the men for whom money is missing still
+-- what upkeep takes from a unit, at this maintenance for each man, where `peers` are the units of its faction in its
+-- region: what it pays for its own men and gives, and the men for whom money is missing still
 abbrev pub upkeep_result_among : ℕ → (peers : List UpkeepInput) → UpkeepInput → UpkeepResult
 upkeep_result_among maintenance peers input = record {
   unit = input.unit;
