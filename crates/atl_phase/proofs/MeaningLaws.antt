@@ -1,7 +1,7 @@
 -- Laws of phases and steps in turn: what holds after them, how far they move the books, and what room that needs.
 -- Campaigns are of the same month (`IsSameMonth`) if month, reports and the set of factions are equal. A phase leaves
--- well (`LeavesWell`) if the campaign after it satisfies `leaves`, is of the same month, has its books in balance if
--- they were before, and no amount moved further than its bound. In the laws j and k bound how far amounts move; a, b
+-- well (`LeavesWell`) if the campaign after it satisfies `leaves` and is of the same month. The books then balance if
+-- they did before, and no amount has moved further than its bound. In the laws j and k bound how far amounts move; a, b
 -- and c are an amount or a campaign before, between and after two moves.
 use Rattle.std.proofs.Common.{◌≡◌, ℕ, ◌+◌, ◌*◌, ◌≤◌, List, [], ◌∷◌, length, refl, sym, ap, subst, ◌∙◌, arith}
 use Rattle.std.specs.Prelude.{ℤ, fold}

@@ -112,8 +112,8 @@ no_worse_is_relation = record { same = no_worse; transitive = no_worse_twice; fa
 
 -- ---- orders
 
--- P holds of the campaign and outcome after a faction's order for unit n, if P holds of the unchanged campaign with the
--- fault NotYours, and of what the effect makes where unit n is there and of this faction
+-- P holds of the campaign and outcome after a faction's order for unit n, if it holds in two cases: of the unchanged
+-- campaign with the fault NotYours, and of what the effect makes where unit n is there and of this faction
 pub carried_cases : (P : CampaignValue × Outcome → Type 0) (effect : OrderEffect) (c : CampaignValue) (faction n : ℕ)
     → P (c, Fault 1) → ((u : Unit) → get c.units n ≡ Some u → u.faction ≡ faction → P (effect c u))
     → P (faction_effect effect c faction n)

@@ -88,8 +88,8 @@ sorted_by_keys {X = X} as_task key os list ts are apart p up =
     sym (ap (map (λ e. e.1)) sorted ∙ map-map (λ (e : List ℕ × Task). e.1) entry list)
     ∙ ap (λ es. values (from_entries {R = slice_cmp nat_cmp} es)) (sym (map-map paired as_task os) ∙ ap (map paired) are)
 
--- if the code sorts its orders `os` by a key that no two have into `list`, then `list` has the orders `ts`, which are
--- those of `os`, as the definition sorts them (`sorted_by`)
+-- The code sorts its orders `os` by a key into `list`, and no two of them have one key. Then `list` has the orders
+-- `ts`, which are those of `os`, as the definition sorts them (`sorted_by`).
 pub listed_tasks : (key : Task → List ℕ) (os list : List PhaseOrder) (ts : List Task) → map task_of os ≡ ts
     → IsDistinct (λ t u. eq_by_cmp (slice_cmp nat_cmp) (key t) (key u)) ts → IsPermutation os list
     → IsSortedByKey (λ o. key (task_of o)) (slice_cmp nat_cmp) list → map task_of list ≡ sorted_by key ts

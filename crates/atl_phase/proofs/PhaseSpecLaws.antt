@@ -44,7 +44,7 @@ moved_within (phase ∷ next ∷ rest) each e t =
 -- ---- a faction without a mailing
 
 -- The phase keeps the mailings, and takes back no Starved event. If it keeps what its specification says, each unit of
--- a faction without a mailing is there after it, with its faction and name, no less of any item, and its men less the
+-- a faction without a mailing is there after it. It has its faction and name, no less of any item, and its men less the
 -- starved (`LeavesUnmailed`).
 abbrev pub PhaseLeavesUnmailed : PhaseSpec → Type 0
 PhaseLeavesUnmailed phase = LeavesUnmailed phase.meaning phase.keeps

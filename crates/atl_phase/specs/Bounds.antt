@@ -86,8 +86,8 @@ pub record IsOrderly (step : OrderMeaning) (holds : Condition) (remaining : Rema
       IfSome (step w a t) (λ effect. StepsWell holds remaining w c (effect c x).0)
   -- `unaffected` can be used over several orders: it is reflexive, transitive, and keeps the faction
   pub unaffected_is_relation : IsUnaffectedRelation unaffected
-  -- if `holds` is true before, each unit that an order for a unit of its writer's faction doesn't affect is there
-  -- after the order, and `unaffected` relates what it was to what it is then
+  -- if `holds` is true before an order for a unit of its writer's faction, each unit that it doesn't affect is there
+  -- after it, and `unaffected` relates what the unit was to what it is then
   pub is_unaffected : (w : WorldValue) (a : Aliases) (c : CampaignValue) (t : Task) (x : Unit) → holds w c → IsUnitOf c t x →
       (n : ℕ) (u : Unit) → get c.units n ≡ Some u → (affects t n u.faction → ⊥) →
       IfSome (step w a t) (λ effect. IsStillThere unaffected (effect c x).0 n u)
@@ -100,8 +100,8 @@ pub record IsOrderly (step : OrderMeaning) (holds : Condition) (remaining : Rema
 abbrev pub nothing_remaining : RemainingBound
 nothing_remaining c = moves_nothing
 
--- the bound on the books for listed items, each a number with an amount: under Lost an item may move by the sum of its
--- listed amounts, and no other amount of the books moves
+-- the bound on the books for listed items, each a number with an amount: under Lost an item may move by at most the sum
+-- of its listed amounts, and no other amount of the books moves
 abbrev pub items_bound : List (ℕ × ℕ) → BookBound
 items_bound [] e t = 0
 items_bound (x ∷ xs) e t = moves_only x.1 Lost (Item x.0) e t + items_bound xs e t

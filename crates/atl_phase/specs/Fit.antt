@@ -6,7 +6,7 @@ use Rattle.atl_world.specs.Worlds.{WorldValue}
 use Rattle.atl_orders.specs.Bounds.{IsReading}
 use Rattle.atl_orders.specs.Mailing.{Reading}
 
--- each faction's reading is in bounds (`IsReading`): the faction, numbers and things are in range, names follow the
--- name rule, operands have the shape of their verbs, and each order is on a later line than the one before, from 1 on
+-- Each faction's reading is in bounds (`IsReading`). Its faction, numbers and things are in range, names follow the
+-- name rule, and operands have the shape of their verbs. Each order is on a later line than the one before, from 1 on.
 abbrev pub AreFit : WorldValue → FinMap nat_cmp Reading → Type 0
 AreFit w readings = (f : ℕ) (r : Reading) → get readings f ≡ Some r → IsReading w r

@@ -116,8 +116,8 @@ pub record AddsIndicesOf (mailings : List Mailing) (ts : List Task) (old new : L
   pub there : All (IsThere mailings) old → All (IsThere mailings) new
   pub tasks : map (task_at mailings) new ≡ map (task_at mailings) old ++ ts
 
--- the new indices name the orders that the old ones name, and after them those of the mailing at an index of the list
--- that count and have one of a phase's verbs; all are there, if the old ones are (`AddsIndicesOf`)
+-- the new indices name the orders of the old ones, and after them those of the mailing at an index of the list that
+-- count and have one of a phase's verbs; all are there, if the old ones are (`AddsIndicesOf`)
 abbrev pub AddsMailing : (Verb → Bool) → Aliases → List Mailing → ℕ → List OrderIndex → List OrderIndex → Type 0
 AddsMailing is_of aliases mailings index = AddsIndicesOf mailings (tasks_for is_of (tasks_at aliases mailings index))
 

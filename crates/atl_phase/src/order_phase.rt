@@ -70,8 +70,9 @@ pub trait OrderPhase: PhaseVerbs {
 
     /// The law that an order which can be read with the world, for a unit of its writer's faction,
     /// keeps `holds`, the month and the balance, and moves no amount further than `remaining`
-    /// falls. Each unit that it doesn't affect is there after it, as `unaffected` says. For this
-    /// `holds` is true before. No `remaining` is above `book_bound` then. Does nothing.
+    /// falls. Each unit that it doesn't affect is there after it, and changed as `unaffected`
+    /// allows, which is reflexive and transitive and keeps the faction. For this `holds` is true
+    /// before, and then no `remaining` is above `book_bound`. Does nothing.
     fn is_orderly(&self)
         ensures { IsOrderly (step self.now) holds remaining book_bound affects unaffected };
 }

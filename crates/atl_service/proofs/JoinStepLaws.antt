@@ -81,7 +81,7 @@ arrival w name pass word c good =
     }
 
 -- the campaign after a join into a good one, with the first report of the faction `n` that joined, has what a write of
--- the join needs: this faction, its report and its unit (`HasArrival`)
+-- the join needs: faction, report and last unit, and books with money and people (`HasArrival`)
 pub arrives : (w : WorldValue) (name pass : List ℕ) (word : ℕ) (c d : CampaignValue) (n m : ℕ) → IsGood w c
     → join_of w name pass word c ≡ Ok (d, (n, m)) → HasArrival (reported w d n) n
 unfolding join_of

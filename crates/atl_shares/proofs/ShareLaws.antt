@@ -192,8 +192,8 @@ pub record IsRemainder (pot total before left : ℕ) : Type 0 where
   pub small : left < total
   pub whole : total * share_upto pot total before + left ≡ pot * before
 
--- The pot times the next want, plus the running remainder (`left`), divided by the sum of all wants and rounded down,
--- is the share of the next want, if that sum isn't 0.
+-- The share of the next want is the pot times the want, plus the running remainder (`left`), divided by the sum of all
+-- wants and rounded down. That sum isn't 0.
 pub next_share : (pot total before left want : ℕ) → 0 < total → IsRemainder pot total before left →
     (pot * want + left) / total ≡ share_upto pot total (before + want) - share_upto pot total before
 next_share pot total before left want p h =
