@@ -80,7 +80,7 @@ pub reports_of_orders : (aliases : Aliases) (faction line : ℕ) (ts : List Task
     → filter (is_from faction line) (map report_for ts) ≡ map report_for (filter (is_at aliases faction line) ts)
 reports_of_orders aliases faction line ts = filter-map (is_from faction line) report_for ts
 
--- the report of order t, where the test holds and the list has t; and else no report, since the list has no order
+-- a list that has order t if the test `b` holds, and else no order, gives the report of t if it holds, and else none
 pub one_reported : (t : Task) (b : Bool) → map report_for (cond b (t ∷ []) []) ≡ report_if b t
 one_reported t true = refl
 one_reported t false = refl

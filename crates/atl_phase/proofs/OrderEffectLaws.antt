@@ -141,8 +141,8 @@ ordered_cases P (Some effect) c t same done =
 abbrev with_some : CampaignValue × Outcome → CampaignValue × Option Outcome
 with_some p = (p.0, Some p.1)
 
--- the campaign and the outcome that an order's effect makes are the order's result, with the outcome in `Some`, if the
--- phase doesn't pass the order over
+-- the campaign d and the outcome o that an order's effect makes are the order's result, with the outcome in `Some`, if
+-- the phase doesn't pass the order over
 pub result_of_effect : (effect : OrderEffect) (c d : CampaignValue) (faction n : ℕ) (o : Outcome)
     → (d, o) ≡ faction_effect effect c faction n → (d, Some o) ≡ order_result (Some effect) c faction n
 result_of_effect effect c d faction n o is = ap with_some is

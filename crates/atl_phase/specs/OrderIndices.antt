@@ -51,7 +51,7 @@ counts_by_lines lines unit line (Some slot) = line == line_in lines (slot_number
 
 -- ---- all verbs, and those of a phase
 
--- a test that every verb passes, for a phase that takes all orders
+-- a test that every verb passes, by which the orders of all phases are gathered at once
 abbrev pub every_verb : Verb → Bool
 every_verb verb = true
 
