@@ -39,7 +39,7 @@ marks_place_at c n r s (Some u) = by_test (u.structure == s)
         let next = handed_marked (put_marked c n r s) u.structure n (heir c.value u.structure n) in
         marks-trans c next (handed_marked next s 0 n) (marks-trans c (put_marked c n r s) next one_put (marks-after_handover (put_marked c n r s) u.structure n (heir c.value u.structure n))) (marks-after_handover next s 0 n)
 
--- putting unit n in region r and structure s, with the marks of `place_marked`, marks all that it changes
+-- putting unit n in region r and structure s (0 for none), with the marks of `place_marked`, marks all that it changes
 pub marks-place : (c d : MarkedCampaign) (n r s : ℕ) → d.value ≡ with_place c.value n r s
     → d.marks ≡ (place_marked c n r s).marks → MarksChanges c d
 unfolding place_marked

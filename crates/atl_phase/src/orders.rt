@@ -88,8 +88,8 @@ pub fn orders_are_in_mailings()
 {}
 
 /// The law that no two orders that a phase carries out are of one faction, for one unit and of
-/// verbs in one slot, if the mailings can be read with a world. Does nothing. See docs/RULES.md,
-/// "Orders of a month".
+/// verbs in one slot. For this the mailings can be read with a world. Does nothing. See
+/// docs/RULES.md, "Orders of a month".
 pub fn one_order_counts()
     ensures { OneOrderCounts }
 {}

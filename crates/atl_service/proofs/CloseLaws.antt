@@ -285,9 +285,9 @@ lists_stay w faults events c d n is lists listed =
 pub few_things : (w : WorldValue) (c : CampaignValue) → IsWorld w → IsGood w c → c.books.things ≤ most_things
 few_things w c world good = omega (arith, good.sound.steady.numbers.books.count, world.few_items)
 
--- if storing a month's reports for factions of a good campaign makes the campaign of `closed`, the campaign after
--- storing them is that of `closed`, and good. `turned` is the campaign before the first report, with the month counted
--- and the mail removed.
+-- Let storing the reports of a month's result (`outcome`), for factions of the good campaign `turned`, make the
+-- campaign of `closed`. Then the campaign after storing them is that of `closed`, and good. `turned` is the campaign
+-- before the first report, with the month counted and the mail removed.
 pub closed_after_reports : (w : WorldValue) (c turned after : CampaignValue) (words : List ℕ) (outcome : MonthResult)
     → reported_to_all w turned outcome ≡ closed w c words → after ≡ reported_to_all w turned outcome
     → AreFactions turned outcome.factions.items → IsGood w turned → (after ≡ closed w c words) × IsGood w after
