@@ -59,7 +59,7 @@ every_verb verb = true
 abbrev pub all_tasks : (Verb → Bool) → Aliases → List Mailing → List Task
 all_tasks is_of aliases mailings = flat_map (λ m. tasks_for is_of (tasks_of aliases m.faction (reading_of m))) mailings
 
--- whether an order has one of a phase's verbs, which are those that pass the test
+-- whether an order has one of a phase's verbs, those that pass `is_of`
 abbrev pub has_verb : (Verb → Bool) → Task → Bool
 has_verb is_of t = is_of t.order_value.verb
 

@@ -35,7 +35,8 @@ joined_with w c (Err NameTaken) = (c, Refused why.NameTaken)
 joined_with w c (Err Full) = (c, Refused why.Full)
 joined_with w c (Err Memory) = (c, Fault faults.Memory)
 
--- The faction that a lookup by number found, if the pass text is its own; else NoFaction or WrongPass.
+-- The faction that a lookup by number found, if the pass text is its own. Else the refusal: NoFaction if it found none,
+-- WrongPass if the pass text is another.
 abbrev pub faction_with_pass : List ℕ → Option Faction → Result Faction Refusal
 faction_with_pass pass None = Err why.NoFaction
 faction_with_pass pass (Some f) = if not (pointwise nat_eq f.pass pass) then Err why.WrongPass else Ok f
