@@ -85,9 +85,9 @@ pub one_reported : (t : Task) (b : Bool) → map report_for (cond b (t ∷ []) [
 one_reported t true = refl
 one_reported t false = refl
 
--- Take the reports of a phase's orders, sorted as `a` says, that are of order t's faction and on its line. Just that of
--- t is, if t has a verb of the phase and counts in its mailing (`order_counts`); otherwise none is. For this t is in
--- the mailing of its faction, and the mailings can be read with the world.
+-- Take the reports of a phase's orders, sorted as `a` says, that are of order t's faction and on its line. There is
+-- just that of t, if t has a verb of the phase and counts in its mailing (`order_counts`); otherwise there is none. For
+-- this t is in the mailing of its faction, and the mailings can be read with the world.
 pub report_in_phase : (w : WorldValue) (m : MonthValue) (aliases : Aliases) (readings : FinMap nat_cmp Reading)
     → m.aliases ≡ aliases → m.readings ≡ readings → AreFit w readings
     → (t : Task) (there : IsInMailing aliases readings t) (is_of : Verb → Bool) (a : Arrangement)

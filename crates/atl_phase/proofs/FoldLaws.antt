@@ -5,9 +5,9 @@ use Rattle.std.specs.Prelude.{fold}
 use Rattle.std.specs.List.{All}
 use Rattle.std.proofs.lemmas.List.{drop_all, drop_more, get_or-map, length-map}
 
--- There is an element at i. If the fold over the elements from i on gives `whole`, so does the fold over those from i +
--- 1 on after the step at i. `before` and `after` are what the fold has made before and after this step; `none` stands
--- in where there is no element.
+-- There is an element at i. If the fold over the elements from i on gives `whole`, so does the fold over those after
+-- it, once the step at i is taken. `before` and `after` are what the fold has made before and after this step; `none`
+-- stands in where there is no element.
 pub fold_after_step : {S A : Type 0} (f : S → A → S) (xs : List A) (i : ℕ) (none : A) (before : S) {after whole : S}
     → i < length xs
     → after ≡ f before (get_or xs i none) → fold f before (drop i xs) ≡ whole → fold f after (drop (i + 1) xs) ≡ whole

@@ -28,7 +28,7 @@ pub record MarksNoItems (before after : Marks) : Type 0 where
 abbrev pub MarksNoGoods : Marks → Marks → Type 0
 MarksNoGoods before after = MarksNoItems before after × (after.skills ≡ before.skills)
 
--- the days of study by skill, with those of each listed skill set to the number beside it; of two entries of one skill
--- the later counts, and the map has no skill that is set to 0
+-- the days of study by skill (`days`), with those of each listed skill set to the number beside it; of two entries of
+-- one skill the later counts, and the result has no skill that is set to 0
 abbrev pub with_days : FinMap nat_cmp ℕ → List (ℕ × ℕ) → FinMap nat_cmp ℕ
 with_days days list = fold (λ all e. with_amount_of all e.0 e.1) days list
