@@ -1,6 +1,7 @@
--- Laws on replies: the message for a problem, or for the answer of a command that was run, replies to the request.
--- `g` is the kind of store, in memory or in files, and `dice` has the club's seed. `old` and `new` are the service
--- before and after the request. `outcome` is the final verdict on it, and `r` the result of making the message.
+-- Laws on replies: the message for a problem, or for the answer of a command that was run, replies to the request. `g`
+-- is the kind of store, in memory or in files, and `dice` has the club's seed. `old` and `new` are the service before
+-- and after the request. `outcome` is the final verdict on it, a problem or a request, and `r` the result of making the
+-- message.
 use Rattle.std.proofs.Common.{◌≡◌, refl, sym, subst, inl, inr}
 use Rattle.std.specs.Prelude.{Result, Ok, Err, IfOk}
 use Rattle.std.specs.declared.alloc.AllocError.{AllocError}

@@ -1,6 +1,7 @@
 -- `Serves`: what serving one request returns, writes, and leaves of the service. See docs/FORMATS.md, "HTTP". `old` and
 -- `new` are the service before and after the request, and `before` and `after` the bytes of reader and writer
--- (`IoBytes`). `dice` has the club's seed, and `g` is the kind of store, in memory or in files.
+-- (`IoBytes`). `dice` has the club's seed, and `g` is the kind of store, in memory or in files. A verdict is what the
+-- bytes seen come to: a problem or a request, which are final, or that more are needed (`More`).
 use Rattle.std.specs.Prelude.{◌≡◌, ◌+◌, ◌<◌, ◌⊎◌, ℕ, List, length, take, Option, Some, None, Result, Ok, Err}
 use Rattle.std.specs.FinMap.{len}
 use Rattle.std.specs.declared.alloc.AllocError.{AllocError}

@@ -57,9 +57,9 @@ fn reply_to<S: Alter>(
     }
 }
 
-/// Reads one request, runs its command, writes the reply and returns its status, and counts the
-/// reads and the interrupted writes. `reads` and `writes` must be `none()`. A fault says why there
-/// is no reply, or only a part.
+/// Reads one request, runs its command, writes the reply and returns its status. It counts the
+/// reads and the interrupted writes in `reads` and `writes`, which begin with none and say how both
+/// ended. A fault says why there is no reply, or only a part.
 pub fn serve_counted<R: Read, W: Write, S: Alter>(
     alloc: Global,
     reader: &mut R,

@@ -47,11 +47,11 @@ pub record Gives (added : Bool → Task → List Report) (meaning : Meaning) : T
   pub readings : (w : WorldValue) (c : CampaignValue) (m : MonthValue) → (meaning w c m).1.readings ≡ m.readings
   pub aliases : (w : WorldValue) (c : CampaignValue) (m : MonthValue) → (meaning w c m).1.aliases ≡ m.aliases
 
--- the report of an order, if the test holds
+-- the report of an order, if the test holds, and else none
 abbrev pub report_if : Bool → Task → List Report
 report_if b t = cond b (report_for t ∷ []) []
 
--- two phases in turn add what the first adds (a), and then what the second adds (b)
+-- where `first` adds a and `second` adds b to an order's events (`Gives`), both in turn add a and then b
 pub gives_both : {a b : Bool → Task → List Report} {first second : Meaning} → Gives a first → Gives b second
     → Gives (λ counts t. a counts t ++ b counts t) (then_also first second)
 gives_both {a} {b} {first} {second} one two = record {
@@ -80,14 +80,14 @@ pub reports_of_orders : (aliases : Aliases) (faction line : ℕ) (ts : List Task
     → filter (is_from faction line) (map report_for ts) ≡ map report_for (filter (is_at aliases faction line) ts)
 reports_of_orders aliases faction line ts = filter-map (is_from faction line) report_for ts
 
--- the reports of a list that has order t if the test holds, and else no order, are those of `report_if`
+-- a list that has order t if the test `b` holds, and else no order, gives the report of t if it holds, and else none
 pub one_reported : (t : Task) (b : Bool) → map report_for (cond b (t ∷ []) []) ≡ report_if b t
 one_reported t true = refl
 one_reported t false = refl
 
--- Of the reports of a phase's orders just that of order t is of t's faction and on t's line, if t has a verb of the
--- phase and counts in its mailing (`order_counts`). Otherwise none is. For this t is in the mailing of its faction, and
--- the mailings can be read with the world.
+-- Take the reports of a phase's orders, sorted as `a` says, that are of order t's faction and on its line. There is
+-- just that of t, if t has a verb of the phase and counts in its mailing (`order_counts`); otherwise there is none. For
+-- this t is in the mailing of its faction, and the mailings can be read with the world.
 pub report_in_phase : (w : WorldValue) (m : MonthValue) (aliases : Aliases) (readings : FinMap nat_cmp Reading)
     → m.aliases ≡ aliases → m.readings ≡ readings → AreFit w readings
     → (t : Task) (there : IsInMailing aliases readings t) (is_of : Verb → Bool) (a : Arrangement)
@@ -128,8 +128,8 @@ module _ {X : Type 0} where
 
 -- ---- a phase that carries its orders out one by one
 
--- of the orders that have a verb of the phase (`is_of`) and can be read with the world, a step takes just those that
--- pass the test `takes`, and passes over the others
+-- of the orders that have a verb of the phase (`is_of`) and can be read with the world, `step` passes over (None) just
+-- those that don't pass the test `takes`
 abbrev pub TakesThose : OrderMeaning → (Verb → Bool) → (Task → Bool) → Type 0
 TakesThose step is_of takes =
     (w : WorldValue) (a : Aliases) (t : Task) → is_of t.order_value.verb ≡ true → IsOrderOf w t.order_value → is_some

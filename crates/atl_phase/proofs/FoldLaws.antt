@@ -5,21 +5,22 @@ use Rattle.std.specs.Prelude.{fold}
 use Rattle.std.specs.List.{All}
 use Rattle.std.proofs.lemmas.List.{drop_all, drop_more, get_or-map, length-map}
 
--- If the fold over the elements from i on gives `whole`, so does the fold over those from i + 1 on after the step at i.
--- `before` and `after` are what the fold has made before and after this step; `none` stands in where there is no
--- element.
+-- There is an element at i. If the fold over the elements from i on gives `whole`, so does the fold over those after
+-- it, once the step at i is taken. `before` and `after` are what the fold has made before and after this step; `none`
+-- stands in where there is no element.
 pub fold_after_step : {S A : Type 0} (f : S → A → S) (xs : List A) (i : ℕ) (none : A) (before : S) {after whole : S}
     → i < length xs
     → after ≡ f before (get_or xs i none) → fold f before (drop i xs) ≡ whole → fold f after (drop (i + 1) xs) ≡ whole
 fold_after_step f xs i none before inside step all =
     ap (λ s. fold f s (drop (i + 1) xs)) step ∙ sym (ap (fold f before) (drop_more xs i none inside)) ∙ all
 
--- past the last element, at index i, what the fold has made so far (`later`) is what the whole fold makes
+-- if no element is left from index i on, and the fold over those left, begun with `later`, gives `whole`, then `later`
+-- is `whole`
 pub fold_ended : {S A : Type 0} (f : S → A → S) (xs : List A) (i : ℕ) (later : S) {whole : S} → length xs ≤ i
     → fold f later (drop i xs) ≡ whole → later ≡ whole
 fold_ended f xs i later ended all = sym (ap (fold f later) (drop_all i xs ended)) ∙ all
 
--- to fold over a list by the value of g for each element is to fold over the list that g was mapped over
+-- to fold over a list xs, taking g of each element, is to fold over the list of what g makes of them
 pub fold_mapped : {S A B : Type 0} (f : S → B → S) (g : A → B) (s : S) (xs : List A)
     → fold (λ r x. f r (g x)) s xs ≡ fold f s (map g xs)
 fold_mapped f g s [] = refl

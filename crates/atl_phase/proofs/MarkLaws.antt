@@ -1,5 +1,5 @@
--- Laws of changes of a campaign that mark all that they change (`MarksChanges`). In the laws campaign a or c is before
--- a change, and b or d after it.
+-- Laws of changes of a campaign that mark all that they change and lose no mark (`MarksChanges`). In the laws campaign
+-- a or c is before a change, and b or d after it.
 use Rattle.std.proofs.Common.{◌≡◌, ◌==◌, ℕ, Bool, true, false, Option, Some, None, refl, sym, ◌∙◌}
 use Rattle.std.specs.Prelude.{ℤ, Result, Ok, Err, OnOk, if◌then◌else◌}
 use Rattle.std.specs.FinMap.{get}
@@ -15,7 +15,7 @@ use Rattle.atl_campaign.proofs.HoldingLaws.{marks-unit_row}
 use Rattle.atl_campaign.proofs.LeavingLaws.{marks-after_handover}
 use Rattle.atl_campaign.proofs.OwnerLaws.{place-what}
 
--- if all that changed from a to m is marked (`MarksChanges`), so it is from a to b, which has the value and marks of m
+-- if all that changed from a to m is marked (`MarksChanges`), so is all from a to b, which has the value and marks of m
 pub marks_by : (a b m : MarkedCampaign) → b.value ≡ m.value → b.marks ≡ m.marks → MarksChanges a m → MarksChanges a b
 marks_by a b m what marks h = rw (what, marks) (record { stay = h.stay; covers = h.covers })
 
@@ -39,7 +39,7 @@ marks_place_at c n r s (Some u) = by_test (u.structure == s)
         let next = handed_marked (put_marked c n r s) u.structure n (heir c.value u.structure n) in
         marks-trans c next (handed_marked next s 0 n) (marks-trans c (put_marked c n r s) next one_put (marks-after_handover (put_marked c n r s) u.structure n (heir c.value u.structure n))) (marks-after_handover next s 0 n)
 
--- putting unit n in region r and structure s, with the marks of `place_marked`, marks all that it changes
+-- putting unit n in region r and structure s (0 for none), with the marks of `place_marked`, marks all that it changes
 pub marks-place : (c d : MarkedCampaign) (n r s : ℕ) → d.value ≡ with_place c.value n r s
     → d.marks ≡ (place_marked c n r s).marks → MarksChanges c d
 unfolding place_marked

@@ -1,7 +1,7 @@
 -- Laws of phases and steps in turn: what holds after them, how far they move the books, and what room that needs.
--- Campaigns are of the same month (`IsSameMonth`) if month, reports and numbers of factions are equal. A phase leaves
--- well (`LeavesWell`) if the campaign after it satisfies `leaves`, is of the same month, has its books in balance if
--- they were before, and no amount moved further than its bound. In the laws j and k bound how far amounts move; a, b
+-- Campaigns are of the same month (`IsSameMonth`) if month, reports and the set of factions are equal. A phase leaves
+-- well (`LeavesWell`) if the campaign after it satisfies `leaves` and is of the same month. The books then balance if
+-- they did before, and no amount has moved further than its bound. In the laws j and k bound how far amounts move; a, b
 -- and c are an amount or a campaign before, between and after two moves.
 use Rattle.std.proofs.Common.{◌≡◌, ℕ, ◌+◌, ◌*◌, ◌≤◌, List, [], ◌∷◌, length, refl, sym, ap, subst, ◌∙◌, arith}
 use Rattle.std.specs.Prelude.{ℤ, fold}
@@ -84,7 +84,7 @@ same_month_among {c} {d} same count factions = record {
   factions = factions;
 }
 
--- all that stays of a campaign within a month: the month last closed, the reports and the factions
+-- the number of the month last closed, the reports, and the factions of a campaign
 abbrev pub kept_in_month : CampaignValue → (ℕ × FinMap nat_cmp (List ℕ)) × FinMap nat_cmp Faction
 kept_in_month c = (counted_month c, c.factions)
 
@@ -105,8 +105,9 @@ same_month_twice a b c one two = record {
   factions = λ n there. one.factions n (two.factions n there);
 }
 
--- Two phases in turn, from campaign a to b and from b to c, keep the month, the books' balance, and amounts within the
--- sum of their bounds, if each does so (`LeavesWell`). After them holds what the second one leaves.
+-- Two phases in turn lead from campaign a to b and from b to c. Together they keep the month, the books' balance, and
+-- amounts within the sum of their bounds, if each keeps its own (`LeavesWell`). After them holds what the second one
+-- leaves.
 pub both_leave_well : {between leaves : Condition} (j k : BookBound) (w : WorldValue) (a b c : CampaignValue)
     → LeavesWell between j w a b → LeavesWell leaves k w b c → LeavesWell leaves (both_move j k) w a c
 both_leave_well j k w a b c one two = record {
@@ -116,8 +117,8 @@ both_leave_well j k w a b c one two = record {
   near = λ e t. near_twice (j e t) (k e t) (amount_in a.books e t) (amount_in b.books e t) (amount_in c.books e t) (one.near e t) (two.near e t);
 }
 
--- Two phases in turn, from campaign a to b and from b to c, keep what each keeps (`both_keep`). For this the first one,
--- in month m, makes b and the month n, which the second one gets.
+-- Two phases in turn, from campaign a to b and from b to c, keep what each keeps (`both_keep`): `early` the first,
+-- `late` the second. For this the first one, in month m, makes b and the month n, which the second one gets.
 pub both_keep_well : (first : Meaning) (early late : Frame) (w : WorldValue) (m n : MonthValue) (a b c : CampaignValue)
     → (b, n) ≡ first w a m → early w m a b → late w n b c → both_keep first early late w m a c
 both_keep_well first early late w m n a b c is one two = rw (sym is) (one, two)

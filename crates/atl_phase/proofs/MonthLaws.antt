@@ -38,7 +38,7 @@ mailings_have_no_order ms ns apart p =
     ∙ from_entries-permutation nat_cmp_total nat_cmp-IsAntisymmetric (map under_faction ms) (map under_faction ns) (IsPermutation-map under_faction ms ns p) (IsDistinct-map under_faction (λ e f. eq_by_cmp nat_cmp e.0 f.0) ms differ)
     ∙ sym (by_faction_is ns)
 
--- mailings of different factions are strictly sorted by faction (`AreByFaction`) once they are sorted by it
+-- mailings of different factions (`ms`), once sorted by faction into `ns`, are strictly sorted by it (`AreByFaction`)
 pub sorted_by_faction : (ms ns : List Mailing) → HaveOwnFactions ms → IsPermutation ms ns
     → IsSortedByKey (λ m. m.faction) nat_cmp ns → AreByFaction ns
 sorted_by_faction ms ns apart p =
@@ -61,7 +61,8 @@ found_at ms f i d rise h tie =
     ∙ ap (λ k. lookup (eq_by_cmp nat_cmp k) es) (sym (nat_cmp-IsAntisymmetric m.faction f tie))
     ∙ lookup-from_Contains (eq_by_cmp_equiv nat_cmp_total) m.faction (reading_of m) es (IsDistinct-map (λ (e : ℕ × Reading). e.0) (eq_by_cmp nat_cmp) es apart) there
 
--- the map has no reading of a faction, if the search for it ends between mailings of lesser and of greater factions
+-- the map has no reading of faction f, if all mailings before index i are of lesser factions, and the others of greater
+-- ones
 pub no_reading_found : (ms : List Mailing) (f i : ℕ)
     → IsPartitionPoint (λ m. nat_cmp m.faction f ≡ Less) (λ m. nat_cmp m.faction f ≡ Greater) ms i
     → get (by_faction (map reading_of ms)) f ≡ None

@@ -112,8 +112,8 @@ no_worse_is_relation = record { same = no_worse; transitive = no_worse_twice; fa
 
 -- ---- orders
 
--- P holds of the campaign and outcome after a faction's order for unit n, if P holds of the unchanged campaign with the
--- fault NotYours, and of what the effect makes where unit n is there and of this faction
+-- P holds of the campaign and outcome after a faction's order for unit n, if it holds in two cases: of the unchanged
+-- campaign with the fault NotYours, and of what the effect makes where unit n is there and of this faction
 pub carried_cases : (P : CampaignValue × Outcome → Type 0) (effect : OrderEffect) (c : CampaignValue) (faction n : ℕ)
     → P (c, Fault 1) → ((u : Unit) → get c.units n ≡ Some u → u.faction ≡ faction → P (effect c u))
     → P (faction_effect effect c faction n)
@@ -141,8 +141,8 @@ ordered_cases P (Some effect) c t same done =
 abbrev with_some : CampaignValue × Outcome → CampaignValue × Option Outcome
 with_some p = (p.0, Some p.1)
 
--- the campaign and the outcome that an order's effect makes are the order's result, with the outcome in `Some`, if the
--- phase doesn't pass the order over
+-- the campaign d and the outcome o that an order's effect makes are the order's result, with the outcome in `Some`, if
+-- the phase doesn't pass the order over
 pub result_of_effect : (effect : OrderEffect) (c d : CampaignValue) (faction n : ℕ) (o : Outcome)
     → (d, o) ≡ faction_effect effect c faction n → (d, Some o) ≡ order_result (Some effect) c faction n
 result_of_effect effect c d faction n o is = ap with_some is

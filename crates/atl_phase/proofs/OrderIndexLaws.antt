@@ -149,7 +149,7 @@ none_wanted is_of aliases asked faction i text (e ∷ es) h =
     by_test others true g = absurd (true≢false g)
     by_test others false g = others g
 
--- a mailing without an order that has a verb of the phase adds no index (`AddsMailing`)
+-- a mailing without an order whose verb passes `is_of` adds no index (`AddsMailing`)
 pub adds_none : (is_of : Verb → Bool) (aliases : Aliases) (ms : List Mailing) (at : ℕ) (list : List OrderIndex)
     → list_any (λ (e : Entry). is_of e.order.verb) (mailing_at ms at).entries ≡ false
     → AddsMailing is_of aliases ms at list list
@@ -161,8 +161,8 @@ adds_none is_of aliases ms at list none =
           ∙ ap (λ ts. map (task_at ms) list ++ ts) (sym (none_wanted is_of aliases (order_counts (tasks_at aliases ms at)) m.faction 0 m.text m.entries none));
     }
 
--- The indices `new` are `old` with those of the mailing at i added (`AddsMailing`). They name the phase's orders in
--- the mailings up to and with index i, if `old` name those in the mailings before i.
+-- The indices `new` are `old` with those of the mailing at i added (`AddsMailing`). They name the orders that count for
+-- the phase in the mailings up to and with index i, if `old` name those in the mailings before i.
 pub next_mailing : (is_of : Verb → Bool) (aliases : Aliases) (ms : List Mailing) (i : ℕ) (old new : List OrderIndex)
     → i < length ms → AddsMailing is_of aliases ms i old new
     → map (task_at ms) old ≡ all_tasks is_of aliases (take i ms)

@@ -88,8 +88,8 @@ sorted_by_keys {X = X} as_task key os list ts are apart p up =
     sym (ap (map (λ e. e.1)) sorted ∙ map-map (λ (e : List ℕ × Task). e.1) entry list)
     ∙ ap (λ es. values (from_entries {R = slice_cmp nat_cmp} es)) (sym (map-map paired as_task os) ∙ ap (map paired) are)
 
--- if the code sorts its orders `os` by a key that no two have into `list`, then `list` has the orders `ts`, which are
--- those of `os`, as the definition sorts them (`sorted_by`)
+-- The code sorts its orders `os` by a key into `list`, and no two of them have one key. Then `list` has the orders
+-- `ts`, which are those of `os`, as the definition sorts them (`sorted_by`).
 pub listed_tasks : (key : Task → List ℕ) (os list : List PhaseOrder) (ts : List Task) → map task_of os ≡ ts
     → IsDistinct (λ t u. eq_by_cmp (slice_cmp nat_cmp) (key t) (key u)) ts → IsPermutation os list
     → IsSortedByKey (λ o. key (task_of o)) (slice_cmp nat_cmp) list → map task_of list ≡ sorted_by key ts
@@ -111,8 +111,9 @@ sorted_by_order_keys : (a : Arrangement) (ms : List Mailing) (list : List OrderI
 sorted_by_order_keys ByUnit ms list up = up
 sorted_by_order_keys ByFaction ms list up = up
 
--- The indices `os` of all orders that count, once sorted by their own keys into `list`, name these orders as the
--- arrangement sorts them (`AreOrderIndices`). For this the mailings are sorted by faction, no two of one faction.
+-- The indices `os` name all orders that count and have a verb that passes `is_of`, mailing by mailing. Sorted by their
+-- own keys into `list`, they name these orders as arrangement `a` sorts them (`AreOrderIndices`). For this the mailings
+-- are sorted by faction, no two of one faction.
 pub sorted_places : (is_of : Verb → Bool) (a : Arrangement) (aliases : Aliases) (ms : List Mailing) (os list : List OrderIndex)
     → AreByFaction ms → AreIndicesByMailing is_of aliases ms os → IsPermutation os list
     → IsSortedByKey (key_by a) (slice_cmp nat_cmp) list

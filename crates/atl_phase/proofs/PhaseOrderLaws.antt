@@ -1,6 +1,6 @@
--- Laws of the orders of a phase: each is an entry of the mailing of its faction, and has a verb of the phase. The
--- arrangement `a` says what orders are sorted by first, unit or faction. A key (`key_of`) is the list of numbers that
--- an order is sorted by.
+-- Laws of the orders of a phase: each is in the mailing of its faction, and has a verb of the phase, one that passes
+-- `is_of`. The arrangement `a` says what orders are sorted by first, unit or faction. A key (`key_of`) is the list of
+-- numbers that an order is sorted by.
 use Rattle.std.proofs.Common.{◌≡◌, ℕ, suc, ◌+◌, Bool, true, ◌&&◌, List, [], ◌∷◌, map, slice_get, Some, All, refl, sym, subst, arith}
 use Rattle.std.specs.declared.cmp.Ordering.{Ordering}
 use Rattle.std.specs.declared.cmp.Ordering.TheVariants.{Less, Equal, Greater}
@@ -92,7 +92,7 @@ module _ (is_of : Verb → Bool) (aliases : Aliases) (readings : FinMap nat_cmp 
       let es = entries (under_keys (key_of a) (tasks_of_phase is_of aliases (entries readings))) in
       All-map P (λ (e : List ℕ × Task). e.1) es (All-from_recursion (λ e. P e.1) es (each_follows (λ e. (e.0 ≡ key_of a e.1) × IsPhaseOrder e.1) (λ e. P e.1) (λ e h. so e.1 h.1) es (orders_count a)))
 
--- each order of a phase is an entry of the mailing of its faction (`OrdersAreInMailings`)
+-- each order of a phase is in the mailing of its faction (`OrdersAreInMailings`)
 pub orders_are_in_mailings : OrdersAreInMailings
 orders_are_in_mailings is_of a aliases readings =
     of_each is_of aliases readings (IsInMailing aliases readings) (λ t h. h.there) a

@@ -43,13 +43,14 @@ moved_within (phase ∷ next ∷ rest) each e t =
 
 -- ---- a faction without a mailing
 
--- The phase keeps the mailings, and takes back no Starved event. If it keeps what its specification says, it leaves
--- units of factions without a mailing their name and items, and their men less the starved (`LeavesUnmailed`).
+-- The phase keeps the mailings, and takes back no Starved event. If it keeps what its specification says, each unit of
+-- a faction without a mailing is there after it. It has its faction and name, no less of any item, and its men less the
+-- starved (`LeavesUnmailed`).
 abbrev pub PhaseLeavesUnmailed : PhaseSpec → Type 0
 PhaseLeavesUnmailed phase = LeavesUnmailed phase.meaning phase.keeps
 
--- All phases but the last leave units of factions without a mailing as `LeavesUnmailed` says, and the last one as
--- `ClosesUnmailed` says. It holds of no empty list.
+-- All phases but the last do as `PhaseLeavesUnmailed` says. So does the last, but it may change the mailings, and
+-- removes a unit all of whose men starve (`ClosesUnmailed`). No empty list has this.
 abbrev pub CloseTogether : List PhaseSpec → Type 0
 CloseTogether [] = ⊥
 CloseTogether (phase ∷ []) = ClosesUnmailed phase.meaning phase.keeps
@@ -64,7 +65,8 @@ closed_together [] none = absurd none
 closed_together (phase ∷ []) closes = closes
 closed_together (phase ∷ next ∷ rest) each = then_closes each.0 (closed_together (next ∷ rest) each.1)
 
--- phases in turn leave units of factions without a mailing as `LeavesUnmailed` says, if each does
+-- phases in turn leave units of factions without a mailing their names and items, and their men less the starved
+-- (`LeavesUnmailed`), if each phase does
 pub leave_together : (phases : List PhaseSpec) → EachPhase PhaseLeavesUnmailed phases
     → LeavesUnmailed (meaning_of phases) (keeps_of phases)
 leave_together [] each = record {

@@ -34,7 +34,7 @@ filter-map p f (x ∷ xs) =
       | false ↦ rest
     ]
 
--- to sort the orders that pass a test p is to sort all orders and keep those that pass, if no two keys are equal
+-- to sort by `key_of` what passes a test p is to sort all and keep what passes, if no two orders have one key
 pub sorted-passing : (a : Arrangement) (p : Task → Bool) (ts : List Task) → IsDistinct (same_key a) ts
     → sorted_by (key_of a) (filter p ts) ≡ filter p (sorted_by (key_of a) ts)
 sorted-passing a p ts apart =
@@ -52,7 +52,7 @@ narrow true false false h = refl
 narrow false true o h = absurd (true≢false h)
 narrow false false o h = refl
 
--- a test made twice passes what it passes once: so the verbs of a phase are among those of its own indices (`within`)
+-- a test made twice gives what it gives once
 pub twice : (b : Bool) → b ≡ (b && b)
 twice true = refl
 twice false = refl

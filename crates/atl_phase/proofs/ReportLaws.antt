@@ -103,7 +103,7 @@ in_turn p q us =
     filter_both p q us ∙ filter_agree (λ u. p u && q u) (λ u. q u && p u) (λ u. and_comm (p u) (q u)) us
     ∙ sym (filter_both q p us)
 
--- sorting by key leaves a list that has order t if the test holds, and else no order, as it is
+-- a list of order t if the test holds, and else of no order, stays as it is when sorted by the numbers of `key_of`
 pub alone : (t : Task) (a : Arrangement) (b : Bool)
     → values (from_entries {R = slice_cmp nat_cmp} (map (λ u. (key_of a u, u)) (cond b (t ∷ []) [])))
     ≡ cond b (t ∷ []) []

@@ -116,8 +116,8 @@ module _ (c : CampaignValue) (k from to : ℕ) where
   pub handed_is : after_handover c k from to ≡ record c { structures = (after_handover c k from to).structures }
   handed_is = handed_cases (λ d. d ≡ record c { structures = d.structures }) refl refl
 
--- P holds of the campaign after unit n is put in region r and structure s, if P holds of the campaign as it was, and of
--- the one with the unit put there. Each handover of a structure must keep P.
+-- P holds of the campaign after unit n is put in region r and structure s, where three things hold. P holds of the
+-- campaign as it was, and of the one in which only the unit is put there; and each handover of a structure keeps P.
 pub placed_cases : (P : CampaignValue → Type 0) (c : CampaignValue) (n r s : ℕ) → P c → P (with_position c n r s)
     → ((d : CampaignValue) (k from to : ℕ) → P d → P (after_handover d k from to)) → P (with_place c n r s)
 unfolding with_place

@@ -1,5 +1,6 @@
 -- Laws of steps that book nothing, and that change no unit but that of the order. In the laws a step makes campaign d
--- of c. Order t is for unit x, and k is the number of any unit v.
+-- of c. Order t is for unit x, and k is the number of any unit v. A step leaves the month if month, reports and set of
+-- factions stay (`IsSameMonth`). A total is how much of a thing all units and regions have (`total`).
 use Rattle.std.proofs.Common.{◌≡◌, ◌≢◌, ◌+◌, ℕ, Option, Some, None, refl, sym, ap, ◌∙◌}
 use Rattle.std.proofs.lemmas.Option.{same_Some}
 use Rattle.std.specs.Prelude.{IfSome, pos}

@@ -270,7 +270,7 @@ OthersHaveMen f c d = Every (λ n u. f ≢ u.faction → IsStillThere HasItsMen 
 pub others_men : (f : ℕ) (c d : CampaignValue) → HaveTheirMen c d → OthersHaveMen f c d
 others_men f c d men n u there other = men n u there
 
--- the effect of each order, for a unit of its writer's faction, leaves every unit of another faction its men
+-- the effect that `step` gives an order on a unit of its writer's faction leaves every unit of another faction its men
 -- (`OthersHaveMen`)
 abbrev pub LeavesOthersMen : OrderMeaning → Type 0
 LeavesOthersMen step =
@@ -351,8 +351,8 @@ pub own_faction : (t : Task) (n f : ℕ) → IsOwnOrder t n f → t.faction ≡ 
 own_faction t n f h = h.faction
 
 -- If units that no order of the phase affects change from c to d at most as `unaffected` allows, units of factions
--- without a mailing keep their names and items (`HasItsItems`). For this only orders of its own faction may affect a
--- unit, and `unaffected` must keep name and items.
+-- without a mailing are still there, with their names and no less of any item (`HasItsItems`). For this only orders of
+-- its own faction may affect a unit, and `unaffected` must keep name and items.
 pub unmailed_keep_items : {affects : Affects} {unaffected : Unaffected} (is_of : Verb → Bool)
     → ((t : Task) (n f : ℕ) → affects t n f → t.faction ≡ f) → ((u v : Unit) → unaffected u v → HasItsItems u v)
     → (w : WorldValue) (c d : CampaignValue) (m : MonthValue) → others_unaffected affects unaffected is_of w m c d

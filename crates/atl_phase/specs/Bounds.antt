@@ -49,8 +49,8 @@ pub record UsesBound (remaining left : ℕ) (before after : ℤ) : Type 0 where
 
 -- ---- the step of one order
 
--- After a step `holds` is true of the campaign, month, reports and set of factions are the same (`IsSameMonth`), and
--- the books balance if they did before. No amount of the books moves further than its remaining bound falls.
+-- After a step `holds` is true of the campaign. Month, reports and set of factions are the same (`IsSameMonth`), and
+-- the books balance if they did before. No amount of the books moves further than its bound in `remaining` falls.
 pub record StepsWell (holds : Condition) (remaining : RemainingBound) (w : WorldValue) (before after : CampaignValue) : Type 0 where
   pub holds_still : holds w after
   pub same_month : IsSameMonth before after
@@ -63,8 +63,6 @@ pub record StepsWell (holds : Condition) (remaining : RemainingBound) (w : World
 pub record IsUnaffectedRelation (unaffected : Unaffected) : Type 0 where
   -- `unaffected` relates each unit to itself, so a unit that doesn't change is unaffected
   pub same : (u : Unit) → unaffected u u
-  -- `unaffected` is transitive: a unit that each of two changes in turn leaves unaffected is unaffected by both
-  -- together
   pub transitive : (u v x : Unit) → unaffected u v → unaffected v x → unaffected u x
   -- `unaffected` relates only units of the same faction, so an unaffected unit keeps its faction
   pub faction : (u v : Unit) → unaffected u v → v.faction ≡ u.faction
@@ -74,11 +72,11 @@ pub record IsUnitOf (c : CampaignValue) (t : Task) (u : Unit) : Type 0 where
   pub there : get c.units t.unit ≡ Some u
   pub faction : u.faction ≡ t.faction
 
--- The conditions on a phase that carries its orders out one by one. They are on orders for units of their writer's
--- faction, each in a campaign of which `holds` is true. An order that can be read with the world keeps `holds`, month
--- and balance, and moves no amount further than its remaining bound falls (`StepsWell`). Each unit that an order
--- doesn't affect is there after it, and has changed at most as `unaffected` allows. No remaining bound is above
--- `book_bound`.
+-- The conditions on a phase that carries its orders out one by one, as `step` says of each; of an order that it passes
+-- over (None) nothing is asked. They are on orders for units of their writer's faction, each in a campaign of which
+-- `holds` is true. An order that can be read with the world does as `StepsWell` says: it keeps `holds`, month and
+-- balance, and moves no amount further than its remaining bound falls. Each unit that an order doesn't affect is there
+-- after it, and has changed at most as `unaffected` allows. No remaining bound is above `book_bound`.
 pub record IsOrderly (step : OrderMeaning) (holds : Condition) (remaining : RemainingBound) (book_bound : BookBound)
     (affects : Affects) (unaffected : Unaffected) : Type 0 where
   -- each order that can be read with the world, for a unit of its writer's faction, does as `StepsWell` says, if
@@ -88,8 +86,8 @@ pub record IsOrderly (step : OrderMeaning) (holds : Condition) (remaining : Rema
       IfSome (step w a t) (λ effect. StepsWell holds remaining w c (effect c x).0)
   -- `unaffected` can be used over several orders: it is reflexive, transitive, and keeps the faction
   pub unaffected_is_relation : IsUnaffectedRelation unaffected
-  -- if `holds` is true before, each unit that an order for a unit of its writer's faction doesn't affect is there
-  -- after the order, and `unaffected` relates what it was to what it is then
+  -- if `holds` is true before an order for a unit of its writer's faction, each unit that it doesn't affect is there
+  -- after it, and `unaffected` relates what the unit was to what it is then
   pub is_unaffected : (w : WorldValue) (a : Aliases) (c : CampaignValue) (t : Task) (x : Unit) → holds w c → IsUnitOf c t x →
       (n : ℕ) (u : Unit) → get c.units n ≡ Some u → (affects t n u.faction → ⊥) →
       IfSome (step w a t) (λ effect. IsStillThere unaffected (effect c x).0 n u)
@@ -102,7 +100,8 @@ pub record IsOrderly (step : OrderMeaning) (holds : Condition) (remaining : Rema
 abbrev pub nothing_remaining : RemainingBound
 nothing_remaining c = moves_nothing
 
--- the bound on the books for a list of items, by number, with their amounts: each amount is booked as lost
+-- the bound on the books for listed items, each a number with an amount: under Lost an item may move by at most the sum
+-- of its listed amounts, and no other amount of the books moves
 abbrev pub items_bound : List (ℕ × ℕ) → BookBound
 items_bound [] e t = 0
 items_bound (x ∷ xs) e t = moves_only x.1 Lost (Item x.0) e t + items_bound xs e t

@@ -6,7 +6,8 @@ use Rattle.atl_world.specs.Worlds.{WorldValue}
 use Rattle.atl_orders.specs.Bounds.{IsReading}
 use Rattle.atl_orders.specs.Mailing.{Reading}
 
--- each faction's reading is in bounds (`IsReading`): names follow the name rule, numbers and things are in range,
--- operands have the shape of their verbs, and each entry is on a later line than the one before
+-- Each faction's reading is in bounds (`IsReading`). Its faction, numbers and things are in range, names follow the
+-- name rule, and operands have the shape of their verbs. Lines are from 1 on, and each order is on a later one than the
+-- one before.
 abbrev pub AreFit : WorldValue → FinMap nat_cmp Reading → Type 0
 AreFit w readings = (f : ℕ) (r : Reading) → get readings f ≡ Some r → IsReading w r

@@ -7,8 +7,8 @@ use Rattle.atl_records.specs.Holdings.{HoldingValue, with_amount_of}
 use Rattle.atl_campaign.specs.Marks.{Marks}
 use Rattle.atl_campaign.specs.Campaign.{MarkedCampaign, unit_changed}
 
--- Unit n, if it is there, holds what `change` makes of what it held, and nothing else changes.
--- All that changed is marked, and the same units as before have all their items and days marked at once.
+-- Unit n, if it is there, holds what `change` makes of what it held, and nothing else changes. No mark is lost, all
+-- that changed is marked, and the same units as before have all their items and days marked at once.
 pub record ChangesHolding (before after : MarkedCampaign) (n : ℕ) (change : HoldingValue → HoldingValue) : Type 0 where
   pub value : after.value ≡ unit_changed (λ u. record u { holding = change u.holding }) before.value n
   pub marks : MarksChanges before after
@@ -28,7 +28,7 @@ pub record MarksNoItems (before after : Marks) : Type 0 where
 abbrev pub MarksNoGoods : Marks → Marks → Type 0
 MarksNoGoods before after = MarksNoItems before after × (after.skills ≡ before.skills)
 
--- a map of days by skill in which the days of each listed skill are set to the listed number, one after another; of two
--- entries of one skill the later counts, and 0 days aren't listed
+-- the days of study by skill (`days`), with those of each listed skill set to the number beside it; of two entries of
+-- one skill the later counts, and the result has no skill that is set to 0
 abbrev pub with_days : FinMap nat_cmp ℕ → List (ℕ × ℕ) → FinMap nat_cmp ℕ
 with_days days list = fold (λ all e. with_amount_of all e.0 e.1) days list

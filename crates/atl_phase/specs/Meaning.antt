@@ -79,7 +79,7 @@ pub record IsSameMonth (before after : CampaignValue) : Type 0 where
   -- no faction is added
   pub factions : (n : ℕ) → HasValue after.factions n → HasValue before.factions n
 
--- After a phase `leaves` is true of the campaign, month, reports and set of factions are the same (`IsSameMonth`), and
+-- After a phase `leaves` is true of the campaign. Month, reports and set of factions are the same (`IsSameMonth`), and
 -- the books balance if they did before. No amount of the books moves further than its bound (`book_bound`).
 pub record LeavesWell (leaves : Condition) (book_bound : BookBound) (w : WorldValue) (before after : CampaignValue) : Type 0 where
   pub leaves_it : leaves w after

@@ -23,8 +23,7 @@ use Rattle.atl_records.specs.contracts.event.Event as event
 abbrev pub Aliases : Type 0
 Aliases = FinMap nat_cmp (FinMap nat_cmp ℕ)
 
--- What the phases of a month hand on, as contracts see it: what was read of each faction's mailing, the aliases,
--- the words of the dice, and the events so far.
+-- What the phases of a month hand on, as contracts see it.
 pub record MonthValue : Type 0 where
   -- what was read of each faction's mailing, by faction
   pub readings : FinMap nat_cmp Reading

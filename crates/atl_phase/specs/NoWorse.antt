@@ -11,8 +11,8 @@ use Rattle.atl_phase.specs.Meaning.{Frame}
 abbrev pub IsUnchanged : Unit → Unit → Type 0
 IsUnchanged before after = after ≡ before
 
--- The unit has the same faction, region, structure, name and guard flag,
--- and no less men, money, items or days than before.
+-- The unit has the same faction, region, structure, name and guard flag as before. It has no fewer men, no less money,
+-- and no less of any item or of the days of any skill.
 pub record IsNoWorse (before after : Unit) : Type 0 where
   pub faction : after.faction ≡ before.faction
   pub region : after.region ≡ before.region

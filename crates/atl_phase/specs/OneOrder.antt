@@ -25,8 +25,9 @@ share_slot t o =
     t.unit == o.unit &&
     (t.faction == o.faction && are_same_slot (row_of t.order_value.verb).slot (row_of o.order_value.verb).slot)
 
--- A law: no two orders that a phase carries out are of one faction, for one unit and of one slot (`share_slot`). For
--- this the mailings can be read with the world. The test `is_of` says which verbs the phase has.
+-- A law: no two orders that a phase carries out, sorted by unit or by faction first (`arrangement`), are of one
+-- faction, for one unit and of one slot (`share_slot`). For this the mailings can be read with the world. The test
+-- `is_of` says which verbs the phase has.
 abbrev pub OneOrderCounts : Type 0
 OneOrderCounts =
     (w : WorldValue) (is_of : Verb → Bool) (arrangement : Arrangement) (aliases : Aliases) (readings : FinMap nat_cmp Reading) →

@@ -63,7 +63,7 @@ abbrev pub event_for : Task → Outcome → Event
 event_for t outcome =
     record { faction = t.faction; unit = t.unit; line = t.line; verb = Order t.order_value.verb; outcome = outcome }
 
--- the month with the event of an order; an order that the phase passes over has none
+-- the month with the event of an order as its last; as it was, where the phase passes the order over (None)
 abbrev pub with_event_of : MonthValue → Task → Option Outcome → MonthValue
 with_event_of m t None = m
 with_event_of m t (Some outcome) = record m { events = m.events ++ event_for t outcome ∷ [] }
@@ -75,8 +75,8 @@ one_order step w (c, m) t =
     let after = order_result (step w m.aliases t) c t.faction t.unit in
     (after.0, with_event_of m t after.1)
 
--- The effect of a phase that carries out its orders one by one, by unit, line and faction. It has the verbs that pass
--- `is_of`, and does for each order what `step` says.
+-- The effect of a phase that carries out one by one the orders that count and have a verb that passes `is_of`, by unit,
+-- line and faction. For each it does what `step` says.
 unfoldable pub meaning_by_orders : OrderMeaning → (Verb → Bool) → Meaning
 meaning_by_orders step is_of w c m = fold (one_order step w) (c, m) (orders_by_unit is_of m)
 
@@ -100,18 +100,17 @@ Unaffected = Unit → Unit → Type 0
 pub record IsStillThere (unaffected : Unaffected) (after : CampaignValue) (number : ℕ) (u : Unit) : Type 0 where
   -- the unit of this number as it is in the campaign after
   pub unit : Unit
-  -- the campaign after has the unit under this number
   pub there : get after.units number ≡ Some unit
   -- `unaffected` relates u, which the unit was before, to the unit as it is after
   pub is_unaffected : unaffected u unit
 
--- each unit that none of the listed orders affects is still there after them, and has changed at most as `unaffected`
--- allows
+-- each unit that none of the listed orders affects (`affects`) is still there after them, and has changed at most as
+-- `unaffected` allows
 abbrev pub AreUnaffected : Affects → Unaffected → List Task → CampaignValue → CampaignValue → Type 0
 AreUnaffected affects unaffected ts before after =
     (n : ℕ) (u : Unit) → get before.units n ≡ Some u → All (λ t. affects t n u.faction → ⊥) ts → IsStillThere unaffected after n u
 
--- what a phase keeps: each unit that none of its orders affects is still there after the phase, and has changed at
--- most as `unaffected` allows
+-- what a phase keeps: each unit that none of its orders affects (`affects`) is still there after the phase, and has
+-- changed at most as `unaffected` allows
 abbrev pub others_unaffected : Affects → Unaffected → (Verb → Bool) → Frame
 others_unaffected affects unaffected is_of w m before after = AreUnaffected affects unaffected (orders_by_unit is_of m) before after

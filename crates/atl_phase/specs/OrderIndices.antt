@@ -31,7 +31,7 @@ AreByFaction mailings = IsStrictlySortedBy (λ m n. nat_cmp m.faction n.faction)
 abbrev pub LastLineMap : Type 0
 LastLineMap = FinMap nat_cmp (FinMap nat_cmp ℕ)
 
--- the greatest line noted for a unit in a slot; 0 where none is noted
+-- the greatest line noted for a unit in a slot, both given by number; 0 where none is noted
 abbrev pub line_in : LastLineMap → (slot unit : ℕ) → ℕ
 line_in lines slot unit = unwrap_or (get (group_of lines slot) unit) 0
 
@@ -51,7 +51,7 @@ counts_by_lines lines unit line (Some slot) = line == line_in lines (slot_number
 
 -- ---- all verbs, and those of a phase
 
--- a test that every verb passes, for a phase that takes all orders
+-- a test that every verb passes, by which the orders of all phases are gathered at once
 abbrev pub every_verb : Verb → Bool
 every_verb verb = true
 
@@ -59,13 +59,14 @@ every_verb verb = true
 abbrev pub all_tasks : (Verb → Bool) → Aliases → List Mailing → List Task
 all_tasks is_of aliases mailings = flat_map (λ m. tasks_for is_of (tasks_of aliases m.faction (reading_of m))) mailings
 
--- whether an order has one of a phase's verbs, which are those that pass the test
+-- whether an order has one of a phase's verbs, those that pass `is_of`
 abbrev pub has_verb : (Verb → Bool) → Task → Bool
 has_verb is_of t = is_of t.order_value.verb
 
 -- ---- the indices of orders
 
--- the numbers that the index of an order is sorted by: those of `key_of` for the order itself
+-- the numbers that the index of an order is sorted by: unit, line and faction, or faction, line and unit; and last the
+-- index of the order in its mailing. They are those of `key_of` for the order.
 abbrev pub key_by : Arrangement → OrderIndex → List ℕ
 key_by ByUnit p = p.unit ∷ p.line ∷ p.faction ∷ p.index ∷ []
 key_by ByFaction p = p.faction ∷ p.line ∷ p.unit ∷ p.index ∷ []
@@ -82,11 +83,12 @@ no_entry = record { line = 0; target = Number 0; order = record { verb = Work; o
 abbrev pub mailing_at : List Mailing → ℕ → Mailing
 mailing_at mailings index = slice_index_or mailings index no_mailing
 
--- all orders of the mailing at an index of a list
+-- all orders of the mailing at an index of a list; none past the last mailing
 abbrev pub tasks_at : Aliases → List Mailing → ℕ → List Task
 tasks_at aliases mailings index = tasks_of aliases (mailing_at mailings index).faction (reading_of (mailing_at mailings index))
 
--- the order that an index names: by the index of its mailing, and its own index in the mailing
+-- the order that an index names. Faction, unit, line and place in the mailing are those of the index; what the order
+-- says is in the mailing that it names, or WORK where no order is there (`no_entry`).
 abbrev pub task_at : List Mailing → OrderIndex → Task
 task_at mailings p = record {
   faction = p.faction;
@@ -114,17 +116,17 @@ pub record AddsIndicesOf (mailings : List Mailing) (ts : List Task) (old new : L
   pub there : All (IsThere mailings) old → All (IsThere mailings) new
   pub tasks : map (task_at mailings) new ≡ map (task_at mailings) old ++ ts
 
--- the new indices name the orders that the old ones name, and after them those of the mailing at an index of the list
--- that count and have one of a phase's verbs
+-- the new indices name the orders of the old ones, and after them those of the mailing at an index of the list that
+-- count and have one of a phase's verbs; all are there, if the old ones are (`AddsIndicesOf`)
 abbrev pub AddsMailing : (Verb → Bool) → Aliases → List Mailing → ℕ → List OrderIndex → List OrderIndex → Type 0
 AddsMailing is_of aliases mailings index = AddsIndicesOf mailings (tasks_for is_of (tasks_at aliases mailings index))
 
--- the indices name the orders of all mailings that count and have one of a phase's verbs, mailing by mailing
+-- the indices name orders that are there: all that count and have one of a phase's verbs, mailing by mailing
 abbrev pub AreIndicesByMailing : (Verb → Bool) → Aliases → List Mailing → List OrderIndex → Type 0
 AreIndicesByMailing is_of aliases mailings = AreIndicesOf mailings (all_tasks is_of aliases mailings)
 
--- the indices name the orders of all mailings that count and have one of a phase's verbs, sorted as the arrangement
--- says
+-- the indices name orders that are there: all that count and have one of a phase's verbs, sorted by unit or by faction
+-- first, as the arrangement says
 abbrev pub AreOrderIndices : (Verb → Bool) → Arrangement → Aliases → List Mailing → List OrderIndex → Type 0
 AreOrderIndices is_of arrangement aliases mailings =
     AreIndicesOf mailings (orders_of is_of arrangement aliases (by_faction (map reading_of mailings)))

@@ -19,8 +19,7 @@ use Rattle.atl_phase.specs.declared.phase_order.PhaseOrder.{PhaseOrder}
 use Rattle.atl_phase.specs.declared.phase_order.Arrangement.{Arrangement}
 use Rattle.atl_phase.specs.declared.phase_order.Arrangement.TheVariants.{ByUnit, ByFaction}
 
--- An order of a mailing: its faction, the unit that it is for, its line, its index, and what it says.
--- The index is the one among the orders of the mailing, from 0 on.
+-- An order of a mailing.
 pub record Task : Type 0 where
   -- the number of the faction that wrote the order
   pub faction : ℕ
@@ -50,7 +49,8 @@ abbrev pub unit_of : Aliases → ℕ → UnitRef → ℕ
 unit_of aliases faction (Number n) = n
 unit_of aliases faction (Alias alias) = unwrap_or (alias_unit aliases faction alias) 0
 
--- the orders in some entries of a mailing; the numbers are the faction, and the index of the first entry in the mailing
+-- the orders in some entries (`EntryValue`) of a mailing; the numbers are the faction, and the index of the first of
+-- these entries in the mailing
 abbrev pub tasks_from : Aliases → ℕ → ℕ → List EntryValue → List Task
 tasks_from aliases faction index [] = []
 tasks_from aliases faction index (e ∷ es) =
@@ -137,7 +137,7 @@ orders_by_unit is_of m = orders_of is_of ByUnit m.aliases m.readings
 
 -- ---- a law
 
--- order t is an entry of its faction's mailing, at its index, with its unit, its line and what it says
+-- order t is in its faction's mailing, at its index, with its unit, its line and what it says
 pub record IsInMailing (aliases : Aliases) (readings : FinMap nat_cmp Reading) (t : Task) : Type 0 where
   pub reading : Reading
   pub entry : EntryValue
@@ -147,7 +147,7 @@ pub record IsInMailing (aliases : Aliases) (readings : FinMap nat_cmp Reading) (
   pub on_line : entry.line ≡ t.line
   pub says : entry.order_value ≡ t.order_value
 
--- A law: each order of a phase is an entry of the mailing of its faction (`IsInMailing`).
+-- A law: each order of a phase is in the mailing of its faction (`IsInMailing`), in either arrangement.
 abbrev pub OrdersAreInMailings : Type 0
 OrdersAreInMailings =
     (is_of : Verb → Bool) (arrangement : Arrangement) (aliases : Aliases) (readings : FinMap nat_cmp Reading) →

@@ -12,13 +12,10 @@ use Rattle.atl_phase.specs.Unbooked.{moves_nothing}
 
 -- ---- the books
 
--- the entries of the books that a phase may move: those of money, of people and of items
+-- the entries of the books under which a phase may move money, people and items
 pub record MovedEntries : Type 0 where
-  -- the entries under which the phase may move money
   pub money : List BooksEntry
-  -- the entries under which the phase may move people
   pub people : List BooksEntry
-  -- the entries under which the phase may move items
   pub items : List BooksEntry
 
 -- no entries, for a phase that moves no amount of the books
@@ -44,21 +41,17 @@ may_move moved e t = is_among e (entries_of moved t)
 
 -- the specification of a phase: its effect, its bound on the books, the entries that it may move, and what it keeps
 pub record PhaseSpec : Type 1 where
-  -- the effect of the phase on campaign and month
   pub meaning : Meaning
   -- by how much the phase may move each amount of the books
   pub book_bound : BookBound
-  -- the entries of the books under which the phase may move amounts
   pub moved : MovedEntries
-  -- what the phase keeps
   pub keeps : Frame
 
 -- By its bound a phase moves the amounts of its own entries alone (`may_move`), and each by less than 10^14.
 abbrev pub MovesItsOwn : PhaseSpec → Type 0
 MovesItsOwn phase = (e : BooksEntry) (t : Thing) → phase.book_bound e t ≤ (if may_move phase.moved e t then most_moved else 0)
 
--- the specification of a phase that has a given effect, moves no amount of the books, and keeps what the given frame
--- says
+-- the specification of a phase that has the effect `meaning`, moves no amount of the books, and keeps what `keeps` says
 abbrev pub spec_without_books : Meaning → Frame → PhaseSpec
 spec_without_books meaning keeps = record { meaning = meaning; book_bound = moves_nothing; moved = no_moved_entries; keeps = keeps }
 
@@ -68,7 +61,7 @@ abbrev pub goes_by_orders : OrderMeaning → (Verb → Bool) → Affects → Una
 goes_by_orders step is_of affects unaffected =
     spec_without_books (meaning_by_orders step is_of) (others_unaffected affects unaffected is_of)
 
--- The specification of a phase that has a given effect and keeps what the given frame says. It moves the money of one
+-- The specification of a phase that has the effect `meaning` and keeps what `keeps` says. It moves the money of one
 -- entry of the books, by at most `most_moved`, and no other amount.
 abbrev pub books_money : BooksEntry → Meaning → Frame → PhaseSpec
 books_money entry meaning keeps = record {
@@ -78,7 +71,7 @@ books_money entry meaning keeps = record {
   keeps = keeps;
 }
 
--- the specification of a phase that has a given effect and keeps what the given frame says. It moves the money of one
+-- The specification of a phase that has the effect `meaning` and keeps what `keeps` says. It moves the money of one
 -- entry of the books and the people of another, each by at most `most_moved`, and no other amount.
 abbrev pub books_money_and_people : (money people : BooksEntry) → Meaning → Frame → PhaseSpec
 books_money_and_people money people meaning keeps = record {
@@ -90,7 +83,7 @@ books_money_and_people money people meaning keeps = record {
 
 -- ---- some phases, one after the other
 
--- the effect of the phases of a list, one after the other
+-- the effect of the phases of a list, one after the other; where there are none, nothing changes
 abbrev pub meaning_of : List PhaseSpec → Meaning
 meaning_of [] = λ w c m. (c, m)
 meaning_of (phase ∷ []) = phase.meaning

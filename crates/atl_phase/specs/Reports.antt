@@ -37,10 +37,9 @@ is_from faction line r = r.faction == faction && r.line == line
 abbrev pub HasOneEvent : List Event → Task → Type 0
 HasOneEvent events t = filter (is_from t.faction t.line) (map report_of events) ≡ report_for t ∷ []
 
--- an order counts: it is an entry of its faction's mailing, and if its verb has a slot, the last one there for its unit
--- in this slot
+-- an order counts: it is in its faction's mailing, and if its verb has a slot, it is the last one there for its unit in
+-- this slot
 pub record Counts (aliases : Aliases) (readings : FinMap nat_cmp Reading) (t : Task) : Type 0 where
-  -- the order is an entry of the mailing of its faction
   pub there : IsInMailing aliases readings t
   -- the order counts among the orders of the mailing
   pub counts : order_counts (tasks_of aliases t.faction there.reading) t ≡ true

@@ -154,11 +154,11 @@ impl Month {
         Ok(())
     }
 
-    /// The orders that count and have a verb of the phase, in the order of the arrangement. It
-    /// takes memory for each of them. If the month's orders aren't gathered, or not in this
-    /// arrangement, it also takes memory for each order of the mailings that have one with a verb
-    /// of the phase, and n log n steps for n orders of the phase. See docs/RULES.md, "Orders of a
-    /// month".
+    /// The orders that count and have a verb of the phase, sorted by unit or by faction first, as
+    /// `arrangement` says. It takes memory for each of them. If the month's orders aren't gathered,
+    /// or not in this arrangement, it takes more: n log n steps for n orders of the phase, and
+    /// memory for each order of the mailings that have one with a verb of the phase. See
+    /// docs/RULES.md, "Orders of a month".
     pub fn orders<P: PhaseVerbs>(
         &self,
         alloc: Global,

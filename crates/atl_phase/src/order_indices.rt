@@ -136,10 +136,10 @@ fn indices_by_mailing<P: PhaseVerbs>(
     Ok(list)
 }
 
-/// The indices of the orders of all mailings that count and have a verb of the phase, sorted as the
-/// arrangement says. The mailings are sorted by faction, no two of one faction. It takes memory for
-/// each order of the mailings that have one with such a verb, and n log n steps for n orders of the
-/// phase.
+/// The indices of the orders of all mailings that count and have a verb of the phase, sorted by
+/// unit or by faction first, as `arrangement` says. The mailings are sorted by faction, no two of
+/// one faction. It takes memory for each order of the mailings that have one with such a verb, and
+/// n log n steps for n orders of the phase.
 pub(crate) fn order_indices<P: PhaseVerbs>(
     alloc: Global,
     phase: &P,

@@ -45,8 +45,8 @@ pub trait OrderPhase: PhaseVerbs {
     ghost unaffected: { Unaffected } = { IsNoWorse };
 
     /// Carries out an order of the phase's verbs, and returns its outcome, or None where the phase
-    /// passes it over. Before it `holds` is true, the books have room for what may still be booked
-    /// (`remaining`), and the order has a verb of the phase, and is such as can be read with the
+    /// passes it over. Before it `holds` is true, and the books have room for what may still be
+    /// booked (`remaining`). The order has a verb of the phase, and is such as can be read with the
     /// world. An order for a unit that isn't there, or is another faction's, changes nothing, and
     /// is NotYours unless it is passed over. AllocError without memory; the campaign may then be
     /// changed in part. See docs/RULES.md, "Orders of a month".
@@ -68,8 +68,11 @@ pub trait OrderPhase: PhaseVerbs {
             campaign.old.value order.entry.faction order.entry.unit) }
         ensures marks { OnOk result (MarksChanges campaign.old campaign.new) };
 
-    /// The law of what each order of the phase keeps, how far it moves the books, and that each
-    /// unit which it doesn't affect is left as `unaffected` says (`IsOrderly`). Does nothing.
+    /// The law of an order that can be read with the world, for a unit of its writer's faction. It
+    /// keeps `holds`, the month and the balance, and moves no amount further than `remaining`
+    /// falls. Each unit that it doesn't affect is there after it, and changed as `unaffected`
+    /// allows, which is reflexive and transitive and keeps the faction. For this `holds` is true
+    /// before, and then no `remaining` is above `book_bound`. Does nothing.
     fn is_orderly(&self)
         ensures { IsOrderly (step self.now) holds remaining book_bound affects unaffected };
 }

@@ -81,15 +81,15 @@ pub(crate) fn phase_orders_at<'m, P: PhaseVerbs>(
     Ok(list)
 }
 
-/// The law that each order of a phase is an entry of the mailing of its faction, at its index
-/// there. Does nothing.
+/// The law that each order of a phase is in the mailing of its faction, at its index there. Does
+/// nothing.
 pub fn orders_are_in_mailings()
     ensures { OrdersAreInMailings }
 {}
 
 /// The law that no two orders that a phase carries out are of one faction, for one unit and of
-/// verbs in one slot, if the mailings can be read with a world. Does nothing. See docs/RULES.md,
-/// "Orders of a month".
+/// verbs in one slot. For this the mailings can be read with a world. Does nothing. See
+/// docs/RULES.md, "Orders of a month".
 pub fn one_order_counts()
     ensures { OneOrderCounts }
 {}

@@ -170,7 +170,8 @@ active_there before after stay =
 -- ---- the month
 
 -- Storing the reports after the month's phases, with the month counted and the mail removed, gives the campaign of
--- `closed`. The phases make `after` and `events` of `c` and its mail; `faults` has each stored mailing's faulty lines.
+-- `closed`. The phases make `after` and `events` of `c`, its mail and the words of the dice (`words`); `faults` has
+-- each stored mailing's faulty lines.
 pub closed_is : (w : WorldValue) (c after : CampaignValue) (events : List Event) (words : List ℕ) (faults : FinMap nat_cmp (List FaultyLine))
     → (after, events) ≡ month_of w c (by_faction (readings w c)) words
     → faults ≡ map_values (λ text. faults_of (reading w text)) c.mail
@@ -227,8 +228,8 @@ faulty_lines_in w es = map (λ e. (e.0, faults_of (reading w e.1))) es
 abbrev faulty_lines_of_mail : WorldValue → CampaignValue → FinMap nat_cmp (List FaultyLine)
 faulty_lines_of_mail w c = map_values (λ text. faults_of (reading w text)) c.mail
 
--- before the first mailing of a good campaign is read, what was read (nothing) and what is left make the whole mail
--- (`ReadSoFar`)
+-- before the first mailing of a good campaign is read, what was read (nothing) and what is left (`all`) make the whole
+-- mail (`ReadSoFar`)
 pub read_begins : (w : WorldValue) (c : CampaignValue) (ms : List Mailing) (faults : FinMap nat_cmp (List FaultyLine)) (all : List (ℕ × List ℕ))
     → IsGood w c → all ≡ entries c.mail → ms ≡ [] → faults ≡ empty → ReadSoFar w c ms faults all
 read_begins w c ms faults all good is none none_wrong =
@@ -261,7 +262,7 @@ read_goes_on w c ms ns faults faults' here rest n text m left one_more read kept
       (subst (EachEntry IsMailingOf) left sent).1,
     )
 
--- when no mailing is left, all mail is read (`HasRead`)
+-- when what was read (`r`) and what is left (`rest`) make the whole mail, and nothing is left, all is read (`HasRead`)
 pub read_ends : (w : WorldValue) (c : CampaignValue) (r : ReadMail) (rest : List (ℕ × List ℕ)) → rest ≡ []
     → ReadSoFar w c r.mailings.items r.faults rest → HasRead w c r
 read_ends w c r rest none (mailings, all, outcome, sent) = record {
@@ -284,9 +285,9 @@ lists_stay w faults events c d n is lists listed =
 pub few_things : (w : WorldValue) (c : CampaignValue) → IsWorld w → IsGood w c → c.books.things ≤ most_things
 few_things w c world good = omega (arith, good.sound.steady.numbers.books.count, world.few_items)
 
--- if storing a month's reports for factions of a good campaign makes the campaign of `closed`, the campaign after
--- storing them is that of `closed`, and good. `turned` is the campaign before the first report, with the month counted
--- and the mail removed.
+-- Let storing the reports of a month's result (`outcome`), for factions of the good campaign `turned`, make the
+-- campaign of `closed`. Then the campaign after storing them is that of `closed`, and good. `turned` is the campaign
+-- before the first report, with the month counted and the mail removed.
 pub closed_after_reports : (w : WorldValue) (c turned after : CampaignValue) (words : List ℕ) (outcome : MonthResult)
     → reported_to_all w turned outcome ≡ closed w c words → after ≡ reported_to_all w turned outcome
     → AreFactions turned outcome.factions.items → IsGood w turned → (after ≡ closed w c words) × IsGood w after

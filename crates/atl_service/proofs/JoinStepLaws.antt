@@ -81,7 +81,7 @@ arrival w name pass word c good =
     }
 
 -- the campaign after a join into a good one, with the first report of the faction `n` that joined, has what a write of
--- the join needs (`HasArrival`)
+-- the join needs: faction, report and last unit, and books with money and people (`HasArrival`)
 pub arrives : (w : WorldValue) (name pass : List ℕ) (word : ℕ) (c d : CampaignValue) (n m : ℕ) → IsGood w c
     → join_of w name pass word c ≡ Ok (d, (n, m)) → HasArrival (reported w d n) n
 unfolding join_of
@@ -91,8 +91,8 @@ arrives w name pass word c d n m good e =
     let number : c.next_faction ≡ n = ap (λ p. p.1.0) is in
     subst (λ (s : CampaignValue). HasArrival (reported w s n) n) same (subst (λ k. HasArrival (reported w (after_join w name pass word c) k) k) number (arrival w name pass word c good))
 
--- the campaign after a join into a good one, with the first report of the faction `n` that joined, is one that the
--- store takes for a join (`IsJoining`)
+-- the campaign after a join into a good one, with the first report of the faction `n` that joined, is what some join
+-- and some report of `n` make of it (`IsJoining`)
 pub joining_is : (w : WorldValue) (name pass : List ℕ) (word : ℕ) (c d : CampaignValue) (n m : ℕ) → IsGood w c
     → join_of w name pass word c ≡ Ok (d, (n, m)) → IsJoining c n (reported w d n)
 unfolding join_of

@@ -50,6 +50,6 @@ with_month_reports w before (after, events) =
     fold (reported_to w (λ n. faults_in w (get before.mail n)) events) (after_month after) (active before)
 
 -- the campaign after closing a month with these words of the dice, one for each region: mail read and removed, phases
--- run, month counted, reports stored
+-- run, month counted, and reports stored for the factions that weren't gone before
 unfoldable pub closed : WorldValue → CampaignValue → List ℕ → CampaignValue
 closed w c words = with_month_reports w c (month_of w c (by_faction (readings w c)) words)

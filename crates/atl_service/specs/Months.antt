@@ -49,8 +49,8 @@ abbrev pub reported_to_all : WorldValue → CampaignValue → MonthResult → Ca
 reported_to_all w c outcome =
     fold (reported_to w (λ n. unwrap_or (get outcome.faults n) []) outcome.events.items) c outcome.factions.items
 
--- Closing this month is not refused: `step` answers MonthDone, the month limit isn't reached, and there is one word for
--- each region of a valid world.
+-- Closing this month is not refused: `step` makes the campaign of `closed` and answers MonthDone, the month limit isn't
+-- reached, and there is one word for each region of a valid world.
 pub record MayClose (w : WorldValue) (c : CampaignValue) (month : ℕ) (pass words : List ℕ) : Type 0 where
   -- `step` closes the month and answers MonthDone
   pub step_is : step w c (Close month pass words) ≡ (closed w c words, MonthDone month)

@@ -17,7 +17,7 @@ IsMailed (Text _) = ⊥
 IsMailed (Refused _) = ⊥
 IsMailed (Fault _) = ⊥
 
--- From campaign `c` on, each of these commands is a mailing that is stored.
+-- From campaign `c` on, each of these commands, run one after the other by `step`, is a mailing that is stored.
 abbrev pub AreMailed : WorldValue → CampaignValue → List Command → Type 0
 AreMailed w c [] = ⊤
 AreMailed w c (Join _ _ _ ∷ more) = ⊥

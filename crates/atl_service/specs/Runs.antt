@@ -72,14 +72,15 @@ abbrev pub RunsAt : {S : Type 0} → Ghosts S → ServiceValue S → Command →
 RunsAt g old command answer new (Some c) = RunsOpen g c old command answer new
 RunsAt g old command answer new None = (answer ≡ Fault Closed) × (new ≡ old)
 
--- Running the command from service `old` may give this answer and leave service `new`.
+-- Running the command from service `old`, open or closed, may give this answer and leave service `new` (`RunsAt`).
 abbrev pub Runs : {S : Type 0} → Ghosts S → ServiceValue S → Command → Answer → ServiceValue S → Type 0
 Runs g old command answer new = RunsAt g old command answer new old.campaign
 
 -- ---- lists of commands
 
 -- There is one answer for each command. Each command was run by itself, in the service that the one before it left (the
--- first one in `old`), and gave its answer (`Runs`, `IsLater`). The last one left `new`; without commands it is `old`.
+-- first one in `old`), and gave its answer (`Runs`); no failure of the disk was forgotten (`IsLater`). The last one
+-- left `new`; without commands it is `old`.
 abbrev pub RunOneByOne : {S : Type 0} → Ghosts S → ServiceValue S → List Command → List Answer → ServiceValue S → Type 0
 RunOneByOne g old [] [] new = new ≡ old
 RunOneByOne {S} g old (command ∷ cs) (answer ∷ rs) new =

@@ -14,13 +14,11 @@ use Rattle.atl_campaign.specs.Good.{IsGood}
 use Rattle.atl_store.specs.Keeps.{HoldsCampaign}
 use Rattle.atl_store.specs.WorldText.{world_text}
 
--- the value of a service: connection, world, and the campaign while the service is open, else None
+-- the value of a service: the connection to the database, the world, and the campaign while the service is open, else
+-- None
 pub record ServiceValue (S : Type 0) : Type 0 where
-  -- the connection to the database
   pub conn : Held S
-  -- the world of the campaign
   pub world : WorldValue
-  -- the campaign while the service is open, else None
   pub campaign : Option CampaignValue
 
 -- for proofs alone: the encoding of a service's value by its parts, which the kit requires of each type

@@ -13,6 +13,6 @@ events_of sorted faction = unwrap_or (get sorted faction) []
 abbrev pub with_event : FinMap nat_cmp (List Event) → Event → FinMap nat_cmp (List Event)
 with_event sorted e = insert sorted e.faction (events_of sorted e.faction ++ (e ∷ []))
 
--- Under each faction's number are its own events, in their order.
+-- `sorted` lists under each faction's number its own events of `events`, in their order.
 abbrev pub AreSorted : List Event → FinMap nat_cmp (List Event) → Type 0
 AreSorted events sorted = (faction : ℕ) → events_of sorted faction ≡ own_events faction events

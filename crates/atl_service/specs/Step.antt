@@ -27,21 +27,24 @@ use Rattle.atl_service.specs.declared.command.Fault.TheVariants as faults
 abbrev pub reported : WorldValue → CampaignValue → ℕ → CampaignValue
 reported w c faction = reported_with w c faction [] []
 
--- the campaign and answer for a result of `join_of`: joined with its first report stored, refused, or out of memory
+-- the campaign and answer for a result of `join_of`: joined with its first report stored; or the campaign as it was,
+-- refused or out of memory
 abbrev pub joined_with : WorldValue → CampaignValue → Result (CampaignValue × (ℕ × ℕ)) JoinFault → CampaignValue × Answer
 joined_with w c (Ok (after, (faction, unit))) = (reported w after faction, Joined faction unit)
 joined_with w c (Err NameTaken) = (c, Refused why.NameTaken)
 joined_with w c (Err Full) = (c, Refused why.Full)
 joined_with w c (Err Memory) = (c, Fault faults.Memory)
 
--- The faction that a lookup by number found, if the pass text is its own; else NoFaction or WrongPass.
+-- The faction that a lookup by number found, if the pass text is its own. Else the refusal: NoFaction if it found none,
+-- WrongPass if the pass text is another.
 abbrev pub faction_with_pass : List ℕ → Option Faction → Result Faction Refusal
 faction_with_pass pass None = Err why.NoFaction
 faction_with_pass pass (Some f) = if not (pointwise nat_eq f.pass pass) then Err why.WrongPass else Ok f
 
--- The campaign and answer for what a mailing was read as: stored in place of an older one, refused, or out of memory.
--- A stored one is answered with the number of its orders and its faulty lines; these are no reason to refuse. A mailing
--- `text` whose header names another faction than its sender `faction` is refused as WrongFaction.
+-- The campaign and answer for what a mailing was read as: stored in place of an older one, or the campaign as it was,
+-- refused or out of memory. A stored one is answered with the number of its orders and its faulty lines; these are no
+-- reason to refuse. A mailing `text` whose header names another faction than its sender `faction` is refused as
+-- WrongFaction.
 abbrev pub mailed : CampaignValue → ℕ → List ℕ → Result Reading MailFault → CampaignValue × Answer
 mailed c faction text (Ok r) =
     if not (r.faction == faction) then (c, Refused why.WrongFaction)
@@ -51,8 +54,8 @@ mailed c faction text (Err mail.NoHeader) = (c, Refused why.NoHeader)
 mailed c faction text (Err mail.BadHeader) = (c, Refused why.BadHeader)
 mailed c faction text (Err mail.Memory) = (c, Fault faults.Memory)
 
--- the campaign and answer for a mailing, by what `faction_with_pass` gives: its refusal, or the refusal Gone if the
--- faction is gone, or else those of `mailed`
+-- the campaign and answer for a mailing, by what `faction_with_pass` gives: the campaign as it was with its refusal, or
+-- with the refusal Gone if the faction is gone; or else what `mailed` gives
 abbrev pub mailed_by : WorldValue → CampaignValue → ℕ → List ℕ → Result Faction Refusal → CampaignValue × Answer
 mailed_by w c faction text (Err refusal) = (c, Refused refusal)
 mailed_by w c faction text (Ok f) =
@@ -67,7 +70,7 @@ report_answer c faction (Ok f) = (c, Text (unwrap_or (get c.reports faction) [])
 
 -- The campaign and answer for closing a month with a pass text and words of the dice. It is closed if the pass text is
 -- the campaign's, the month is the next one and at most `last_month`, and there is one word for each region. Else the
--- answer is the refusal for the first of these that fails.
+-- campaign stays, and the answer is the refusal for the first of these that fails.
 abbrev pub closed_by : WorldValue → CampaignValue → ℕ → List ℕ → List ℕ → CampaignValue × Answer
 closed_by w c month pass words =
     if not (pointwise nat_eq c.pass pass) then (c, Refused why.WrongPass)
@@ -76,7 +79,7 @@ closed_by w c month pass words =
     else (if not (length words == len w.regions) then (c, Refused why.WrongDice)
     else (closed w c words, MonthDone month))))
 
--- the campaign after one command, and its answer; a report and a refused command leave the campaign as it is
+-- the campaign after one command, and its answer; a report, a refusal and a fault leave the campaign as it is
 unfoldable pub step : WorldValue → CampaignValue → Command → CampaignValue × Answer
 step w c (Join name pass word) =
     if not (name_ok name) then (c, Refused why.BadName)

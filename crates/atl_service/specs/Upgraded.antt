@@ -28,8 +28,6 @@ pub record UpgradesTo {S : Type 0} (g : Ghosts S) (old : Held S) (text : List �
   pub upgrades : Upgrades g text old made.conn made.world campaign
   -- if the disk is clean, the world text that the tables hold is the new text
   pub text_is : HasCleanDisk (state g made.conn) → text_in g made.conn ≡ text
-  -- a disk that isn't clean stays so, no failure of it is forgotten, and reads that are compared with digests stay so
-  -- (`IsLater`)
   pub later : IsLater (state g old) (state g made.conn)
 
 -- the cause that `upgrade` reports for a fault of the store's upgrade, of the same name

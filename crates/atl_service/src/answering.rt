@@ -99,8 +99,8 @@ impl From<MailFault> for MailError {
     }
 }
 
-/// The refusals come in this order: those of `faction_with_pass`, Gone, those of reading the text,
-/// WrongFaction.
+/// The refusals come in this order: NoFaction, WrongPass, Gone, then TooLong, NoHeader or BadHeader
+/// of reading the text, WrongFaction.
 #[tactic(auto, unfolding(crate::specs::Step::step))]
 fn mailing_to_keep(
     alloc: Global,

@@ -67,7 +67,8 @@ fn read_mail(alloc: Global, world: &World, campaign: &Campaign) -> Result<ReadMa
     Ok(ReadMail { mailings, faults })
 }
 
-/// If memory runs out, the campaign in memory may be lost, with a blank one in its place.
+/// Runs the phases, counts the month, removes the mail, and returns what the reports need. If
+/// memory runs out, the campaign may be lost, with a blank one in its place.
 fn turn_month(
     alloc: Global,
     world: &World,

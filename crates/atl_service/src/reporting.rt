@@ -90,7 +90,7 @@ fn report_to(
     store_report_with(alloc, world, campaign, &seen, faction, faults, events)
 }
 
-/// No report makes the lists of regions wrong.
+/// A report changes no unit and no structure, so `lists` stays right for the next report.
 fn report_to_each(
     alloc: Global,
     world: &World,

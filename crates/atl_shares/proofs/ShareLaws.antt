@@ -20,7 +20,8 @@ pub upto_mono : (pot total x y : ℕ) → 0 < total → x ≤ y → share_upto p
 upto_mono pot total x y p h =
     (le-div_iff_mul-le p).1 (omega (arith, mul_comm (share_upto pot total x) total, (upto_is_rounded_quotient pot total x p).0, mul-le-mul_left pot h))
 
--- a share by prefix sums is at most its want, if the pot is at most the sum of all wants, which isn't 0
+-- what a want gets, as a difference of two `share_upto`, is at most the want, if the pot is at most the sum of all
+-- wants, which isn't 0
 pub part_le : (pot total before want : ℕ) → 0 < total → pot ≤ total
     → share_upto pot total (before + want) - share_upto pot total before ≤ want
 part_le pot total before want p h =
@@ -57,7 +58,8 @@ shares_after-append pot total before (x ∷ xs) ys =
     (shares_after-append pot total (before + x) xs ys
     ∙ ap (λ n. shares_after pot total (before + x) xs ++ shares_after pot total n ys) (let e : sum (x ∷ xs) ≡ x + sum xs = sum_by-cons (λ x. x) x xs in omega arith))
 
--- a share by prefix sums differs from `pot * want / total` by less than one, if the sum of all wants, `total`, isn't 0
+-- what a want gets, as a difference of two `share_upto`, differs from `pot * want / total` by less than one, if `total`
+-- isn't 0
 pub share_near : (pot total before want : ℕ) → 0 < total →
     ((share_upto pot total (before + want) - share_upto pot total before) * total < pot * want + total)
     × (pot * want < (share_upto pot total (before + want) - share_upto pot total before) * total + total)
@@ -190,8 +192,8 @@ pub record IsRemainder (pot total before left : ℕ) : Type 0 where
   pub small : left < total
   pub whole : total * share_upto pot total before + left ≡ pot * before
 
--- The pot times the next want, plus the running remainder, divided by the sum of all wants and rounded down, is the
--- share of the next want.
+-- The share of the next want is the pot times the want, plus the running remainder (`left`), divided by the sum of all
+-- wants and rounded down. That sum isn't 0.
 pub next_share : (pot total before left want : ℕ) → 0 < total → IsRemainder pot total before left →
     (pot * want + left) / total ≡ share_upto pot total (before + want) - share_upto pot total before
 next_share pot total before left want p h =
@@ -201,7 +203,7 @@ next_share pot total before left want p h =
     let split : share_upto pot total (before + want) ≡ due / total + low = ap (λ n. n / total) all ∙ add-mul-div_left due low p in
     omega arith
 
--- the remainder of the division in `next_share` is the running remainder after the want
+-- the remainder of the division in `next_share` is the running remainder after the want, if `total` isn't 0
 pub next_left : (pot total before left want : ℕ) → 0 < total → IsRemainder pot total before left →
     IsRemainder pot total (before + want) ((pot * want + left) % total)
 next_left pot total before left want p h =

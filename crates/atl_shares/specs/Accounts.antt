@@ -1,5 +1,6 @@
--- For proofs alone: the accounts in which the code adds up the upkeep of a faction's units in a region; all amounts are
--- money.
+-- For proofs alone: the accounts in which the code adds up the upkeep of a faction's units in a region. An account has
+-- the money that these units have left and are short of after their own upkeep, and how much they gave (`given`) and
+-- got (`covered`) so far.
 use Rattle.std.specs.Prelude.{List, min, unwrap_or, ℕ, ◌+◌, ◌-◌, ◌≤◌, ◌==◌, if◌then◌else◌}
 use Rattle.std.specs.Ordering.{nat_cmp}
 use Rattle.std.specs.FinMap.{FinMap, get, insert}
@@ -46,7 +47,7 @@ to_give a = min a.left a.short
 
 -- What upkeep takes from a unit, at this maintenance for each man, by the account of its faction in its region as it is
 -- when the unit's turn comes. It gives what it has left, and gets what it is short of, each until the amount to give
--- (`to_give`) is used up.
+-- (`to_give`) is used up. The men starve for whom money is missing still.
 abbrev pub upkeep_result_by : ℕ → Account → UpkeepInput → UpkeepResult
 upkeep_result_by maintenance a input = record {
   unit = input.unit;

@@ -52,12 +52,12 @@ given_among maintenance peers =
 abbrev pub peers_before : (peers : List UpkeepInput) → UpkeepInput → List UpkeepInput
 peers_before peers input = filter (λ p. nat_lt p.unit input.unit) peers
 
--- the money that a unit gives in its turn, at this maintenance: all that it has left, until all is given
+-- the money that a unit gives in its turn, at this maintenance: all that it has left, until `given_among` is used up
 abbrev pub given_by : ℕ → (peers : List UpkeepInput) → UpkeepInput → ℕ
 given_by maintenance peers input =
     amount_in_turn (given_among maintenance peers) (sum_by (left_of maintenance) (peers_before peers input)) (left_of maintenance input)
 
--- the money that a unit gets in its turn, at this maintenance: all that it is short of, until all is given
+-- the money that a unit gets in its turn, at this maintenance: all that it is short of, until `given_among` is used up
 abbrev pub given_to : ℕ → (peers : List UpkeepInput) → UpkeepInput → ℕ
 given_to maintenance peers input =
     amount_in_turn (given_among maintenance peers) (sum_by (short_of maintenance) (peers_before peers input)) (short_of maintenance input)
@@ -67,8 +67,8 @@ given_to maintenance peers input =
 abbrev pub starved_of : (maintenance short : ℕ) → ℕ
 starved_of maintenance short = (short + (maintenance - 1)) / maintenance
 
--- what upkeep takes from a unit, where `peers` are the units of its faction in its region: what it pays for its own men
--- and gives, and the men for whom money is missing still
+-- what upkeep takes from a unit, at this maintenance for each man, where `peers` are the units of its faction in its
+-- region: what it pays for its own men and gives, and the men for whom money is missing still
 abbrev pub upkeep_result_among : ℕ → (peers : List UpkeepInput) → UpkeepInput → UpkeepResult
 upkeep_result_among maintenance peers input = record {
   unit = input.unit;
