@@ -372,8 +372,8 @@ remaining_within w c can e t = by_thing t
 
 -- ---- the phase
 
--- Each order of BUILD keeps what BUILD needs of the campaign, within the bounds on the books. A unit without an order
--- of its own faction is no worse off (`IsOrderly`).
+-- Each order of BUILD for a unit of its own faction, if it can be read with the world, keeps what BUILD needs of the
+-- campaign, within the bounds on the books. A unit without an order of its own faction is no worse off (`IsOrderly`).
 pub build_orderly : IsOrderly build_step CanBuild build_remaining build_moves IsOwnOrder IsNoWorse
 build_orderly = record {
   well = λ w a c t x can fit own. well w c t.unit x own.there can t.order_value.operands;
@@ -411,8 +411,8 @@ pub leaves_steady : (w : WorldValue) (c d : CampaignValue) → LeavesWell CanBui
 leaves_steady w c d h =
     record { leaves_it = h.leaves_it.steady; same_month = h.same_month; balances = h.balances; near = h.near }
 
--- a unit can use what it holds of an item of the world (`CanUse`), if the campaign is as BUILD needs it (`CanBuild`)
--- and the books have room for what all units hold (`build_remaining`)
+-- a unit can use any amount of an item of the world that it holds (`CanUse`), if the campaign is as BUILD needs it
+-- (`CanBuild`) and the books have room for what all units hold (`build_remaining`)
 pub can_use : (w : WorldValue) (c : CampaignValue) (n item amount : ℕ) (u : Unit) → get c.units n ≡ Some u
     → amount ≤ amount_of u.holding.items item → item < length w.items → CanBuild w c → HaveRoom (build_remaining c) c
     → CanUse w c n item amount

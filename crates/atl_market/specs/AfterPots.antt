@@ -44,7 +44,7 @@ stock_after Buy stock traded = stock - traded
 
 -- The law that in a world (`IsWorld`) all units trade at once by SELL or BUY, whatever the orders `os`. By SELL a unit
 -- with a share and a market gives its share of the item and gets the money for it; others stay as they are. A region's
--- stock of an item grows by all that its units sold of it. By BUY it is the reverse.
+-- stock of an item grows by all that its units sold of it. By BUY they get the item for money, and the stock falls.
 abbrev pub TradesAtOnce : Type 0
 TradesAtOnce =
     (trade : Trade) (w : WorldValue) (c : CampaignValue) (os : List Task) → IsWorld w →
@@ -92,7 +92,7 @@ abbrev pub with_pieces_added : HoldingValue → (item amount : ℕ) → HoldingV
 with_pieces_added h item amount = record h { items = with_amount_of h.items item (amount_of h.items item + amount) }
 
 -- A unit with `made` pieces more of item `x`, which has the number `item`, and less of the raw items that the pieces
--- take.
+-- take, if they take any.
 abbrev pub maker_of : Unit → (made item : ℕ) → Item → Unit
 maker_of u made item x =
     record u { holding = with_pieces_added (with_raw_taken u.holding x.raw (made * x.raw_count)) item made }

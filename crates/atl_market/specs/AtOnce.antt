@@ -33,8 +33,8 @@ RegionChange = Region → (given : ℕ) → Region
 abbrev pub paid_unit : UnitChange → Unit → Option ℕ → Unit
 paid_unit gets u share = option_map_or (gets u) share u
 
--- The phase `p` with the orders `os` pays all units at once. `gets n` makes of unit `n` and its share the unit after
--- the phase. `gives` makes of each region and the sum of what its units got the region after the phase.
+-- The phase `p`, which begins in `c` with the orders `os`, pays all units at once. `gets n` makes of unit `n` and its
+-- share the unit after the phase. `gives` makes of each region and the sum of what its units got the region after it.
 pub record PaysAtOnce (p : PotMeaning) (w : WorldValue) (gets : ℕ → UnitChange) (gives : RegionChange)
     (c : CampaignValue) (os : List Task) : Type 0 where
   -- each unit is what `gets` makes of it and its share; a unit without a share is as it was
@@ -69,9 +69,9 @@ pub record HasNewStocks (q : Region) (becomes : (stock given : ℕ) → ℕ) (gi
   -- `becomes` makes of each item's old stock, and of the amount of the item that was given, the new stock
   pub amounts : (item : ℕ) → amount_of stocks item ≡ becomes (amount_of q.stocks item) (given item)
 
--- The phase `p` with pots of items and the orders `os` pays all units at once. `asked_item n` is the number of the item
--- that unit `n` asks for, if any. `gets n` makes of unit `n` and its share the unit after the phase. `becomes` makes of
--- each stock of a region, and of the sum of its units' shares of the item, the stock after the phase.
+-- The phase `p` with pots of items, which begins in `c` with the orders `os`, pays all units at once. `asked_item n` is
+-- the number of the item that unit `n` asks for, if any. `gets n` makes of unit `n` and its share the unit after it.
+-- `becomes` makes of each stock of a region, and of the sum of its units' shares of the item, the stock after it.
 pub record PaysItemsAtOnce (p : PotMeaning) (w : WorldValue) (asked_item : ℕ → Option ℕ) (gets : ℕ → UnitChange)
     (becomes : (stock given : ℕ) → ℕ) (c : CampaignValue) (os : List Task) : Type 0 where
   -- each unit is what `gets` makes of it and its share; a unit without a share is as it was

@@ -74,7 +74,8 @@ new_structure number kind k region size = record {
   owner = 0;
 }
 
--- a campaign in which one structure more is begun, under the next number of structures; `kind` is the number of `k`
+-- a campaign in which one structure more is begun, with `size` of it done, under the next number of structures; `k` is
+-- the kind with the number `kind`
 abbrev pub with_new_structure : CampaignValue → (kind : ℕ) → Kind → (region size : ℕ) → CampaignValue
 with_new_structure c kind k region size = with_structure_begun c (new_structure c.next_structure kind k region size)
 
@@ -84,8 +85,8 @@ abbrev pub after_start : CampaignValue → (n kind : ℕ) → Kind → (region s
 after_start c n kind k region size =
     with_place (with_new_structure (with_used c n k.material size) kind k region size) n region c.next_structure
 
--- The effect of `BUILD kind` by unit `n`: a structure is begun, and the outcome is Done with how much of it is done.
--- With a fault nothing changes, and the outcome is the fault.
+-- The effect of `BUILD kind` by unit `n`, where `kind` is the number of the kind `k`: a structure is begun, and Done
+-- says how much of it is done. With a fault nothing changes, and the outcome is the fault.
 unfoldable pub begin : WorldValue → (n kind : ℕ) → Kind → OrderEffect
 begin w n kind k c u =
     let size = size_added k u.holding 0 in
@@ -118,8 +119,9 @@ with_kind w s = option_map (λ k. (s, k)) (slice_get w.kinds s.kind)
 abbrev pub structure_and_kind_at : WorldValue → CampaignValue → (structure : ℕ) → Option (Structure × Kind)
 structure_and_kind_at w c structure = option_and_then (with_kind w) (get c.structures structure)
 
--- The campaign and outcome after `BUILD` by unit `n`, inside the given structure of the given kind, or inside none.
--- With a fault nothing changes. `Done 0` never comes out, as `outside_fault` always finds a fault.
+-- The campaign and outcome after `BUILD` by unit `n`, inside the given structure of the given kind, or inside none. The
+-- unit adds `size_added`, as Done says. With a fault nothing changes, and the fault is the outcome. Inside none there
+-- is always one, so `Done 0` never comes out.
 abbrev pub go_on_at : CampaignValue → (n : ℕ) → Unit → Option (Structure × Kind) → CampaignValue × Outcome
 go_on_at c n u None = fault_or c (outside_fault u) (c, Done 0)
 go_on_at c n u (Some (s, k)) =

@@ -62,7 +62,7 @@ most_makeable w h asked = option_map_or (λ e. most_makeable_of h e.0 e.1) (numb
 abbrev pub takes_raw : WorldValue → Option ℕ → Bool
 takes_raw w asked = option_map_or (λ x. is_some x.raw) (item_of w asked) true
 
--- The item that unit `n` makes out of what its region gives: the one that its order names, unless it `takes_raw`.
+-- The item that unit `n` makes out of what its region gives: the one that its order names; None if `takes_raw` holds.
 -- Here and below, `asked` has by unit the number of the item that its order names, and `wants` how many it wants.
 abbrev pub output_item : WorldValue → FinMap nat_cmp ℕ → ℕ → Option ℕ
 output_item w asked n = if takes_raw w (get asked n) then None else get asked n
@@ -145,7 +145,7 @@ produce_moves most Made (things.Item i) = most
 produce_moves most Used (things.Item i) = most
 produce_moves most e t = 0
 
--- what PRODUCE leaves alone: each unit for which its own faction wrote no order of PRODUCE is there and no worse off
+-- what PRODUCE leaves alone: units for which their own faction wrote no PRODUCE that counts are there, no worse off
 abbrev pub produce_keeps : Frame
 produce_keeps = no_worse_without_order is_produce
 

@@ -71,7 +71,7 @@ recruit_meaning = pots_by_orders recruit_pots is_recruit
 abbrev pub recruit_moves : ℕ → BookBound
 recruit_moves most = moves_only most Recruiting Money
 
--- what RECRUIT leaves alone: each unit for which its own faction wrote no order of RECRUIT is there and no worse off
+-- what RECRUIT leaves alone: units for which their own faction wrote no RECRUIT that counts are there, no worse off
 abbrev pub recruit_keeps : Frame
 recruit_keeps = no_worse_without_order is_recruit
 

@@ -78,7 +78,8 @@ market_pot Buy limit stock = stock
 abbrev pub limit_of : WorldValue → (item region : ℕ) → ℕ
 limit_of w item region = option_map_or (λ m. m.limit) (market_of w region item) 0
 
--- how much of an item there is to share in a region: its market's limit less its stock for SELL, its stock for BUY
+-- how much of an item there is to share in a region: for SELL its market's limit (0 without a market) less its stock,
+-- for BUY its stock
 abbrev pub trade_pot : Trade → WorldValue → CampaignValue → (item region : ℕ) → ℕ
 trade_pot trade w c item region = market_pot trade (limit_of w item region) (stock_of c region item)
 
@@ -146,7 +147,7 @@ trade_meaning trade = pots_by_orders (trade_pots trade) (is_trade trade)
 abbrev pub trade_moves : Trade → ℕ → BookBound
 trade_moves trade most = moves_only most (trade_entry trade) Money
 
--- what SELL or BUY leaves alone: units for which their own faction wrote no order of the phase are there, no worse off
+-- what SELL or BUY leaves alone: units for which their own faction wrote none that counts are there, no worse off
 abbrev pub trade_keeps : Trade → Frame
 trade_keeps trade = no_worse_without_order (is_trade trade)
 

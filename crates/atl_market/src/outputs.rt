@@ -82,8 +82,8 @@ fn amount_made(
     }
 }
 
-/// How much each unit that has a want makes, by unit; `asked` has by unit the item that its order
-/// names. AllocError without memory.
+/// How much each unit that has a want makes, by unit. `asked` has by unit the item that its order
+/// names, and `wants` how many it wants (at most 999,999,999). AllocError without memory.
 pub(crate) fn made_amounts(
     alloc: Global,
     world: &World,

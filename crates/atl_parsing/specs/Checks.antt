@@ -27,8 +27,7 @@ or_problem problem (Some x) = Ok x
 
 -- ---- the first check: a request of HTTP/1.1 has exactly one Host
 
--- whether a request of HTTP/1.1 has exactly one field Host; one of HTTP/1.0 needs none. `minor` is the digit after
--- `HTTP/1.`
+-- whether a request of HTTP/1.1 has exactly one field Host; one of HTTP/1.0 needs none
 unfoldable pub has_host : (minor : ℕ) → List Pair → Bool
 has_host minor fields = minor == 0 || is_some (single_value (values_of (codes "Host") fields))
 
