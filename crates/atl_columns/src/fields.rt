@@ -31,7 +31,7 @@ pub trait Fields {
         ensures { IsTrue result ↔ (found.now ≡ strict_columns forms (map (λ n. n.now) names.now)) };
 
     /// The fields of a row from the column `at` on; None if a value is of another form, as is NULL,
-    /// which stands past the row's end. The columns end below 2^32.
+    /// which stands past the row's end. The columns end below 2^32. AllocError without memory.
     fn decode(alloc: Global, row: &Row, at: usize) -> Result<Option<Self::Value>, AllocError>
         requires { at + length forms < 2 ^ 32 }
         ensures { IfOk result

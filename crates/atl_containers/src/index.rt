@@ -104,7 +104,7 @@ impl Index {
         }
     }
 
-    /// How many numbers lead to a slot: few enough that one more can be counted.
+    /// How many numbers lead to a slot: fewer than 2^63, so one more can be counted.
     pub fn len(&self) -> usize
         ensures value { result ≡ map.len self.now }
         ensures small { result < 2 ^ 63 }

@@ -155,7 +155,7 @@ build_moves e t = 0
 -- ---- the phase
 
 -- The specification of the phase BUILD: it carries out orders one by one, and books Used of items (`moved`). A unit for
--- which its own faction wrote no order of BUILD is there and no worse off (`IsOwnOrder`, `IsNoWorse`).
+-- which its own faction wrote no BUILD that counts is there and no worse off (`IsOwnOrder`, `IsNoWorse`).
 abbrev pub build_spec : PhaseSpec
 build_spec = record (goes_by_orders build_step is_building IsOwnOrder IsNoWorse) {
   book_bound = build_moves;
