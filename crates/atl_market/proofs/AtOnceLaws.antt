@@ -60,7 +60,6 @@ module _ {needs : Bool} {step : CampaignValue → ℕ × ℕ → CampaignValue} 
         | inr apart ↦ (q, others v.region apart ∙ at)
       ]
 
-  -- `c` is the campaign when the phase began; `d` is the one that the payments so far leave
   module _ (c : CampaignValue) where
     -- payment `e` can be made: its unit is there in `c`, and the unit's region in `d`, if that is needed (`HasRegion`)
     abbrev CanBePaid : CampaignValue → ℕ × ℕ → Type 0

@@ -198,7 +198,7 @@ module _ {K : Type 0} (pots : DrawnPots K) where
 
 -- ---- the pots of regions: the units of the region draw from them
 
--- which units, by their numbers, draw from the pot of a region: those that are in the region
+-- which units, by their numbers, draw from the pot of a region: those of `units` that are in the region
 abbrev pub draws_region : FinMap nat_cmp Unit → ℕ → Drawers
 draws_region units r n = is_in_region r (get units n)
 

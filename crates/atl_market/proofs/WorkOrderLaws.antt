@@ -117,7 +117,7 @@ other_orders_differ_in_key a b differ =
     false_from_ne_true (have_same_key a b)
     (λ h. let e = keys_tie a b h in differ (ap (λ k. get_or k 0 0) e) (ap (λ k. get_or k 2 0) e))
 
--- no two of a month's month-long orders have the same key
+-- no two of a month's month-long orders that count have the same key
 pub month_long_keys_differ : (m : MonthValue) → IsDistinct have_same_key (orders_by_unit is_month_long m)
 month_long_keys_differ m =
     values_apart (slice_cmp nat_cmp) (slice_cmp-IsAntisymmetric nat_cmp-IsAntisymmetric) (key_of ByUnit)

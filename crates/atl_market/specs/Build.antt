@@ -79,8 +79,9 @@ new_structure number kind k region size = record {
 abbrev pub with_new_structure : CampaignValue → (kind : ℕ) → Kind → (region size : ℕ) → CampaignValue
 with_new_structure c kind k region size = with_structure_begun c (new_structure c.next_structure kind k region size)
 
--- A campaign after unit `n` used `size` of the material, a structure was begun with it in `region`, and the unit moved
--- from its old one into it, as owner. Without unit `n` it is only begun. `kind` is the number of the kind `k`.
+-- A campaign after unit `n` used `size` of the material, and a structure was begun with it in `region`. The unit leaves
+-- its old structure, if it is in one, and enters the new one as owner. Without unit `n` the structure is only begun.
+-- `kind` is the number of the kind `k`.
 abbrev pub after_start : CampaignValue → (n kind : ℕ) → Kind → (region size : ℕ) → CampaignValue
 after_start c n kind k region size =
     with_place (with_new_structure (with_used c n k.material size) kind k region size) n region c.next_structure

@@ -30,7 +30,7 @@ with_writer c unit faction units = if is_of_faction faction (get c.units unit) t
 abbrev pub idle_order : FinMap nat_cmp ℕ → ℕ × Unit → List Task
 idle_order writers (n, u) = if nat_lt 0 u.holding.men && not (is_some (get writers n)) then idle_task n u.faction ∷ [] else []
 
--- an order of WORK for each unit with men for which its own faction wrote none of the orders `ts`, by unit
+-- an order of WORK for each unit with men for which its own faction wrote none of the orders `ts`, by unit number
 abbrev pub all_idle_orders : CampaignValue → List Task → List Task
 all_idle_orders c ts = flat_map (idle_order (own_writers c ts)) (entries c.units)
 

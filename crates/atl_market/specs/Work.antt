@@ -38,7 +38,7 @@ idle_task unit faction = record { faction = faction; unit = unit; line = 0; inde
 abbrev pub is_idle : List Task → ℕ × Unit → Bool
 is_idle ts (n, u) = nat_lt 0 u.holding.men && not (has_own_order ts n u)
 
--- an order of WORK for each unit with men for which its own faction wrote none of the orders `ts`, by unit
+-- an order of WORK for each unit with men for which its own faction wrote none of the orders `ts`, by unit number
 abbrev pub idle_work : CampaignValue → List Task → List Task
 idle_work c ts = map (λ e. idle_task e.0 e.1.faction) (filter (is_idle ts) (entries c.units))
 

@@ -110,8 +110,8 @@ fn use_raw(
     }
 }
 
-/// Unit `number` makes `made` pieces of the item `found`, which has the number `item`, of its raw
-/// items. AllocError without memory; the campaign may then be changed in part.
+/// Unit `number` makes `made` pieces of the item `found`, which has the number `item`, and uses up
+/// the raw items for them, if any. AllocError may leave the campaign changed in part.
 pub(crate) fn make(
     world: &World,
     campaign: &mut Campaign,
