@@ -120,7 +120,7 @@ impl Index {
     }
 }
 
-/// The guess is the number less the first entry's. It fails if a number between the two is missing.
+/// The guess is the number less the first entry's; None if the number isn't at this index.
 fn guess_position(entries: &[IndexEntry], number: u32) -> Option<usize>
     ensures { IfSome result (λ position. IsAt (index_numbers entries.now) number position) }
 {

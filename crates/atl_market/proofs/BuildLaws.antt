@@ -372,7 +372,7 @@ remaining_within w c can e t = by_thing t
 
 -- ---- the phase
 
--- Each order of BUILD for a unit of its own faction, if it can be read with the world, keeps what BUILD needs of the
+-- An order of BUILD for a unit of its writer's faction, if it can be read with the world, keeps what BUILD needs of the
 -- campaign, within the bounds on the books. A unit without an order of its own faction is no worse off (`IsOrderly`).
 pub build_orderly : IsOrderly build_step CanBuild build_remaining build_moves IsOwnOrder IsNoWorse
 build_orderly = record {
