@@ -24,8 +24,8 @@ pub trait Fields {
 
     ghost decode: { SqlRow → Option Self.Value };
 
-    /// Whether the columns found have just these names, one for each form, with the forms' types,
-    /// and all are STRICT and NOT NULL, have no default, and compare texts by their bytes.
+    /// Whether the columns found have just these names, one for each form, with the forms' types.
+    /// All must be STRICT and NOT NULL, have no default, and compare texts by their bytes.
     fn are_columns(found: &[Column], names: &[&str]) -> bool
         requires { length names.now ≡ length forms }
         ensures { IsTrue result ↔ (found.now ≡ strict_columns forms (map (λ n. n.now) names.now)) };

@@ -236,7 +236,7 @@ stock_low w c r q i early around = by_amount (get q.stocks i) refl
 abbrev pub draws_item : FinMap nat_cmp Unit → FinMap nat_cmp ℕ → ℕ × ℕ → ℕ → Bool
 draws_item units items k n = is_in_region k.0 (get units n) && asks_for k.1 (get items n)
 
--- The pots of SELL or BUY, by region and item: what is left of one is the market's limit (0 without a market) less the
+-- The pots of SELL or BUY, by region and item. What is left of one is the market's limit (0 without a market) less the
 -- stock (SELL), or the stock (BUY). `units` and `items` say which units draw from it (`draws_item`).
 abbrev pub item_pots : Trade → WorldValue → FinMap nat_cmp Unit → FinMap nat_cmp ℕ → DrawnPots (ℕ × ℕ)
 item_pots trade w units items =

@@ -285,8 +285,8 @@ module _ (c : CampaignValue) (ts : List Task) where
       ap (λ os. written_work ts ++ os)
       (idle_are (entries c.units) (each-from_every (λ n u. get c.units n ≡ Some u) c.units (λ n u is. is)))
 
--- the code's list of all orders of WORK, sorted by its keys, is the list of the definition (`work_orders`); here `os`
--- is the code's list before it is sorted, and `list` after that
+-- The code's list of all orders of WORK, sorted by its keys, is the list of the definition (`work_orders`). Here `os`
+-- is the code's list before it is sorted, and `list` after that.
 pub work_sorted : (c : CampaignValue) (m : MonthValue) (os list : List PhaseOrder)
     → map task_of os ≡ all_work c (orders_by_unit is_month_long m) → IsPermutation os list
     → IsSortedByKey (λ o. key_of ByUnit (task_of o)) (slice_cmp nat_cmp) list → map task_of list ≡ work_orders c m

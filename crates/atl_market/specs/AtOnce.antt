@@ -58,7 +58,7 @@ abbrev pub given_of_item : (asked_item : ℕ → Option ℕ) → FinMap nat_cmp 
 given_of_item asked_item given units region item =
     sum (map (λ e. e.1) (filter (λ e. is_in_region region (get units e.0) && asks_for item (asked_item e.0)) (entries given)))
 
--- The region `after` is there, and is `q` with only its stocks changed: `becomes` makes of each item's old stock, and
+-- The region `after` is there, and is `q` with only its stocks changed. `becomes` makes of each item's old stock, and
 -- of how much of the item was `given`, the new stock.
 pub record HasNewStocks (q : Region) (becomes : (stock given : ℕ) → ℕ) (given : (item : ℕ) → ℕ)
     (after : Option Region) : Type 0 where

@@ -15,7 +15,7 @@ use Rattle.atl_campaign.specs.Good.{IsSteady}
 use Rattle.atl_campaign.specs.Campaign.{CampaignValue}
 use Rattle.atl_phase.specs.Bounds.{RemainingBound}
 
--- The condition that `step` can be carried out for each element of a list in turn, the first element first: `can` holds
+-- The condition that `step` can be carried out for each element of a list in turn, the first element first. `can` holds
 -- of each in the campaign that the steps ahead of it leave. Payments of shares are such steps.
 abbrev pub CanInTurn : {X : Type 0} → (CampaignValue → X → Type 0) → (CampaignValue → X → CampaignValue)
     → CampaignValue → List X → Type 0

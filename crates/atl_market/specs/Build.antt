@@ -38,8 +38,8 @@ is_building verb = false
 
 -- ---- what a unit adds
 
--- How much a unit adds to a structure of kind `k`: the least of its men times their level in the kind's skill, the
--- material held, and what is missing to the kind's size, where `done` of the structure is done already.
+-- How much a unit adds to a structure of kind `k`, of which `done` is done already. It is the least of its men times
+-- their level in the kind's skill, the material held, and what is missing to the kind's size.
 abbrev pub size_added : Kind → HoldingValue → (done : ℕ) → ℕ
 size_added k h done = min (min (h.men * level_in h k.skill) (amount_of h.items k.material)) (k.size - done)
 

@@ -46,8 +46,8 @@ numbered_item w asked = option_and_then (λ i. option_map (λ x. (i, x)) (slice_
 abbrev pub up_to_raw : HoldingValue → (count : ℕ) → (raw : Option ℕ) → (most : ℕ) → ℕ
 up_to_raw h count raw most = option_map_or (λ r. min (amount_of h.items r / count) most) raw most
 
--- The most of an item, with the number `item`, that a unit can make: the least of its men times their level in the
--- item's skill, its room for the item, and what its raw items allow, if the item takes any.
+-- The most of an item, with the number `item`, that a unit can make. It is the least of its men times their level in
+-- the item's skill, its room for the item, and what its raw items allow, if the item takes any.
 abbrev pub most_makeable_of : HoldingValue → (item : ℕ) → Item → ℕ
 most_makeable_of h i x =
     up_to_raw h x.raw_count x.raw (min (h.men * level_in_any h x.skill) (holding_limit - amount_of h.items i))

@@ -85,8 +85,8 @@ trade_pot trade w c item region = market_pot trade (limit_of w item region) (sto
 
 -- ---- what changes
 
--- The result of trading `share` pieces with a market that has `stock` pieces: the unit's money, its amount of the item
--- and the stock after it, and the money to book, with a minus for BUY.
+-- The result of trading `share` pieces with a market that has `stock` pieces. It has the unit's money, its amount of
+-- the item and the stock after the trade, and the money to book, with a minus for BUY.
 abbrev pub trade_result_of : Trade → HoldingValue → (stock share : ℕ) → Market → TradeResult
 trade_result_of Sell h stock share m = record {
   money = h.money + share * m.pays;

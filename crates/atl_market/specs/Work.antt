@@ -51,8 +51,8 @@ is_work verb = false
 abbrev pub written_work : List Task → List Task
 written_work ts = filter (λ t. is_work t.order_value.verb) ts
 
--- The orders of the phase WORK, sorted by unit, line and faction: the orders of WORK that count, and one for each unit
--- with men for which its own faction wrote no month-long order that counts.
+-- The orders of the phase WORK, sorted by unit, line and faction. They are the orders of WORK that count, and one for
+-- each unit with men for which its own faction wrote no month-long order that counts.
 unfoldable pub work_orders : CampaignValue → MonthValue → List Task
 work_orders c m =
     let month_long = orders_by_unit is_month_long m in

@@ -54,8 +54,8 @@ pub(crate) trait PotPhase {
             (task_of order.entry) }
         ensures bound { result ≤ most_amount };
 
-    /// How much each unit gets, by unit, worked out from `items`, the item that each unit's order
-    /// names, and `wants`, how much each unit wants (at most 999,999,999), both by unit. The
+    /// How much each unit gets, by unit. It is worked out from `items`, the item that each unit's
+    /// order names, and `wants`, how much each unit wants (at most 999,999,999), both by unit. The
     /// campaign is as the phase needs it (`needs`). AllocError without memory.
     fn grants(
         &self,

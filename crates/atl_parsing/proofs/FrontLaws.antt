@@ -165,8 +165,8 @@ digits_utf8 p h = all_utf8 is_ascii_digit (λ b e. grind (arith, nat_tests)) p h
 pub ascii_utf8 : (p : List ℕ) → list_all (λ b. ltb b 128) p ≡ true → IsUtf8 p
 ascii_utf8 p h = all_utf8 (λ b. ltb b 128) (λ b e. grind (arith, nat_tests)) p h
 
--- What looking up a text in the row of a parameter finds: the row's key, and then the text is UTF-8 or no number; or
--- nothing, and then the text is no number.
+-- What looking up a text in the row of a parameter finds. It finds the row's key, and then the text is UTF-8 or no
+-- number; or nothing, and then the text is no number.
 abbrev pub IsNumberLookup : ℕ → List ℕ → Type 0
 IsNumberLookup key rest =
     ((first (number_row key) rest ≡ Some key) × ((number_of rest ≡ None) ⊎ IsUtf8 rest)) ⊎

@@ -48,8 +48,8 @@ requested_route minor method target fields =
 
 -- ---- the third: how many bytes the body of a POST has
 
--- the length of a body, by the number that Content-Length writes: BadRequest if it writes none, BodyTooLong if it is
--- greater than 65,536, as many bytes as a mailing may have
+-- The length of a body, by the number that Content-Length writes. It is BadRequest if it writes none, and BodyTooLong
+-- if the number is above 65,536, as many bytes as a mailing may have.
 abbrev pub size_within : Option ℕ → Result ℕ Problem
 size_within None = Err BadRequest
 size_within (Some n) = if nat_lt most_bytes n then Err BodyTooLong else Ok n
