@@ -146,7 +146,7 @@ impl<T: Copy + Drop> GapVec<T> {
         self.free = compact(&mut self.items, free);
     }
 
-    /// How many elements the list has, without the unused ones.
+    /// How many elements the list has, without the unused ones: fewer than 2^63.
     pub fn len(&self) -> usize
         ensures value { result ≡ length self.now }
         ensures small { result < 2 ^ 63 }

@@ -103,7 +103,7 @@ module _ {K X : Type 0} (R : K → K → Ordering) (exact : IsAntisymmetric R) (
 abbrev work_key : Task → List ℕ
 work_key = key_of ByUnit
 
--- whether two orders have the same key
+-- whether two orders have the same key: unit, line, faction and index in the mailing
 abbrev pub have_same_key : Task → Task → Bool
 have_same_key a b = eq_by_cmp (slice_cmp nat_cmp) (work_key a) (work_key b)
 

@@ -22,10 +22,10 @@ abbrev pub CanInTurn : {X : Type 0} → (CampaignValue → X → Type 0) → (Ca
 CanInTurn can step c [] = ⊤
 CanInTurn can step c (x ∷ xs) = can c x × CanInTurn can step (step c x) xs
 
--- what BUILD needs: the campaign is steady, and each kind of the world names a material and a skill of the world
+-- what BUILD needs: the campaign is steady, and each kind of the world keeps the rules of kinds (`IsKind`)
 pub record CanBuild (w : WorldValue) (c : CampaignValue) : Type 0 where
   pub steady : IsSteady w c
-  -- each kind of the world keeps the rules of kinds: its material and its skill are of the world
+  -- each kind of the world keeps the rules of kinds, so its material and its skill are of the world
   pub kinds : (i : ℕ) (k : Kind) → slice_get w.kinds i ≡ Some k → IsKind (length w.items) (length w.skills) k
 
 -- how much of a thing BUILD may still book for a holding under an entry: under Used all that it has of an item, else 0

@@ -55,8 +55,8 @@ pub record HasRoomAndRaw (w : WorldValue) (u : Unit) (made i : ℕ) (x : Item) :
   pub raw : (r : ℕ) → x.raw ≡ Some r → made * x.raw_count ≤ amount_of u.holding.items r
 
 -- The unit of a pair (unit, share) can make its share of the item that its order names, which `asked` has by unit. The
--- unit is there, and has room and raw items for the share. The campaign is steady, and the books have room for
--- 999,999,999 of each item made, and as much used.
+-- unit is there, and has room and raw items for the share, if the world has the item. The campaign is steady, and the
+-- books have room for 999,999,999 of each item made, and as much used.
 pub record CanProduce (asked : FinMap nat_cmp ℕ) (w : WorldValue) (c : CampaignValue) (e : ℕ × ℕ) : Type 0 where
   pub unit : Unit
   pub there : get c.units e.0 ≡ Some unit

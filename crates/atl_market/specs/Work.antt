@@ -73,7 +73,7 @@ abbrev pub work_want : Unit → Option Terrain → ℕ
 work_want u terrain =
     option_map_or (λ t. min u.holding.men ((holding_limit - u.holding.money) / t.wage)) terrain 0
 
--- the wages, in money, that this number of work places in a region pays
+-- the wages, in money, that this number of work places in a region pays; 0 where there is no terrain
 abbrev pub wages_for : WorldValue → ℕ → ℕ → ℕ
 wages_for w region places = places * wage_at w region
 
