@@ -124,8 +124,8 @@ produce_fault h (Some x) =
 
 -- ---- the phase
 
--- PRODUCE as a phase with pots: faults, wants and shares by the item that each order names. The event says how many
--- were made.
+-- PRODUCE as a phase with pots: a region's pot of an item is what its terrain gives of it. An item that is made of raw
+-- items comes out of no pot. The event says how many were made.
 abbrev pub produce_pots : PotMeaning
 produce_pots = record {
   fault = λ w u t. produce_fault u.holding (item_of w (item_in t.order_value.operands));

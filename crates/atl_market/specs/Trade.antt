@@ -57,8 +57,8 @@ abbrev pub trade_fault : Trade → HoldingValue → Option Market → Option Eve
 trade_fault trade h None = Some NoMarket
 trade_fault trade h (Some m) = first_fault ((has_too_little trade h m, NotEnough) ∷ [])
 
--- The most pieces that a unit can trade with a market. SELL is limited by its amount of the item and its room for
--- money, BUY by its money and its room for the item.
+-- The most pieces that a unit can trade with a market. SELL is limited by its amount of the item and, at `pays` each,
+-- its room for money; BUY, at `price` each, by its money, and by its room for the item.
 abbrev pub most_tradable : Trade → HoldingValue → Market → ℕ
 most_tradable Sell h m = min (amount_of h.items m.item) ((holding_limit - h.money) / m.pays)
 most_tradable Buy h m = min (h.money / m.price) (holding_limit - amount_of h.items m.item)
@@ -128,8 +128,8 @@ after_trade trade items w c (n, share) =
 
 -- ---- the phases
 
--- SELL or BUY as a phase with pots, by the item and the number that each order names. The event says how many were
--- traded.
+-- SELL or BUY as a phase with pots, one for each region and item (`trade_pot`). Each order names an item and asks for a
+-- number of pieces. The event says how many were traded.
 abbrev pub trade_pots : Trade → PotMeaning
 trade_pots trade = record {
   fault = λ w u t. trade_fault trade u.holding (market_for w u (item_in t.order_value.operands));
