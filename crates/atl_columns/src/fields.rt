@@ -24,14 +24,14 @@ pub trait Fields {
 
     ghost decode: { SqlRow → Option Self.Value };
 
-    /// Whether the columns found have these names, of which there is one for each form, and the
-    /// forms' types, and are as `strict_column` says.
+    /// Whether the columns found have just these names, one for each form, with the forms' types.
+    /// All must be STRICT and NOT NULL, have no default, and compare texts by their bytes.
     fn are_columns(found: &[Column], names: &[&str]) -> bool
         requires { length names.now ≡ length forms }
         ensures { IsTrue result ↔ (found.now ≡ strict_columns forms (map (λ n. n.now) names.now)) };
 
     /// The fields of a row from the column `at` on; None if a value is of another form, as is NULL,
-    /// which stands past the row's end. The columns end below 2^32.
+    /// which stands past the row's end. The columns end below 2^32. AllocError without memory.
     fn decode(alloc: Global, row: &Row, at: usize) -> Result<Option<Self::Value>, AllocError>
         requires { at + length forms < 2 ^ 32 }
         ensures { IfOk result

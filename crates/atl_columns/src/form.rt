@@ -21,7 +21,7 @@ pub trait Form {
     // The field that a value of SQL is read as; None for a value of another form.
     ghost decode: { SqlValue → Option Self.Value };
 
-    /// The field that a value is read as; None if it is of another form.
+    /// The field that a value is read as; None if it is of another form. AllocError without memory.
     fn decode(alloc: Global, value: ValueRef<'_>) -> Result<Option<Self::Value>, AllocError>
         ensures { IfOk result (λ read. read ≡ decode (owned value.entry)) };
 

@@ -1,5 +1,5 @@
 -- Laws of the index: a list of entries (a number and its slot), sorted by number, is a map from numbers to slots. `ps`
--- are the entries of an index, n is a number, k a slot, i an index of the list, and d any entry; r is what a binary
+-- are the entries of an index, n is a number, k a slot, i an index of the list, and d any entry. r is what a binary
 -- search returns.
 use Rattle.std.proofs.Common.{◌≡◌, ℕ, zero, suc, ◌+◌, ◌-◌, ◌<◌, ◌⊎◌, inl, inr, Bool, true, false, cond, not, ◌&&◌, List, [], ◌∷◌, length, map, get_or, Option, Some, None, refl, sym, ap, ◌∙◌, arith}
 use Rattle.std.specs.Prelude.{Result, Ok, Err, IfOk, IfErr, is_some}
@@ -198,7 +198,7 @@ len-index ps s = len_of (slots_of ps) (rw (keys_are ps) s) ∙ length-map ps (λ
 
 -- ---- the index that a search gives: of a number, or where it belongs
 
--- what a binary search finds (Ok) is the index of the entry with number n
+-- what a binary search by number finds (Ok), an index within the list, is the index of the entry with number n
 pub found-by_search : (ps : List IndexEntry) (n : ℕ) (r : Result ℕ ℕ) → IsSearchInRange r (length ps)
     → IsBinarySearchResult (λ p. nat_cmp p.number n) ps r → IfOk r (λ i. IsAt (index_numbers ps) n i)
 found-by_search ps n (Ok i) l h =
@@ -220,7 +220,7 @@ searchable ps n s = searchable_from_sorted nat_cmp_total (λ (p : IndexEntry). p
     let up = Less-from_sorted nat_cmp ns k (k + 1) d.number s (omega arith) (omega arith) in
     ap is_lt (λ i. nat_cmp (sym (at (k + 1) h) i) (sym (at k (omega arith)) i)) ∙ ap is_lt (nat_cmp_total.antisymm (get_or ns (k + 1) d.number) (get_or ns k d.number)) ∙ ap (λ r. is_lt (ordering_reverse r)) up)
 
--- where a binary search finds no entry with number n, it gives the index where n belongs (Err)
+-- where a binary search in sorted index entries finds none with number n, it gives the index where n belongs (Err)
 pub missing-by_search : (ps : List IndexEntry) (n : ℕ) (r : Result ℕ ℕ) → IsSortedIndex ps
     → IsSearchInRange r (length ps) → IsBinarySearchResult (λ p. nat_cmp p.number n) ps r
     → IfErr r (λ i. BelongsAt (index_numbers ps) n i)
@@ -236,7 +236,7 @@ missing-by_search ps n (Err i) s l h =
       after = λ k m w. let more = ranked (get_or ps k d).number n Greater (sym (parts.1 k d m (omega (arith, w, size)))) in let same = at k (omega (arith, w, size)) in omega (arith, more, same);
     }
 
--- a number above that of the last index entry belongs at the end
+-- a number above that of the last of sorted index entries belongs at the end
 pub BelongsAt-above : (ps : List IndexEntry) (p : IndexEntry) (n : ℕ) → IsSortedIndex ps
     → slice_get ps (length ps - 1) ≡ Some p → p.number < n → BelongsAt (index_numbers ps) n (length ps)
 BelongsAt-above ps p n s is above =

@@ -1,5 +1,5 @@
--- Laws of numbers_where, the list of the numbers of a map whose values pass a test: how it changes as a value is added
--- or replaced. m is the map, k the number, u the value under it before, v the value put in, and p the test.
+-- Laws of numbers_where, the list of the numbers of a map whose values pass a test, as a value is added or replaced. m
+-- is the map, k the number, u the value under it before, v the value put in, and p the test.
 use Rattle.std.proofs.Common.{◌≡◌, ℕ, suc, ◌+◌, not, ◌<◌, Bool, true, false, cond, nat_le, List, [], ◌∷◌, ◌++◌, map, filter, take, drop, Some, None, refl, sym, ap, ◌∙◌, arith}
 use Rattle.std.specs.declared.cmp.Ordering.TheVariants.{Less, Equal, Greater}
 use Rattle.std.specs.Ordering.{nat_cmp, is_eq}

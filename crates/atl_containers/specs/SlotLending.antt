@@ -6,7 +6,7 @@ use Rattle.std.specs.Borrow.{LendsIf, MutBor, Fml}
 use denote.RattleType.{RattleType}
 use Rattle.atl_containers.specs.contracts.arena.Arena.{the_row}
 
--- after a loan r of the value under a number, which `get_mut` returns, arena m, whose values are of the type V, has r's
--- last value there; without a loan (None) m is unchanged
+-- After a loan r of the value under a number, which `get_mut` returns, arena m has r's last value there. Its values are
+-- of the type V. Without a loan (None) m is unchanged.
 abbrev pub LendsSlot : (V : RattleType) → MutBor (map.FinMap nat_cmp V.Denot) → ℕ → Option (MutBor V.Denot) → Fml
 LendsSlot V m number r = LendsIf (the_row V) V m r (λ w. map.insert m.now number w) m.now

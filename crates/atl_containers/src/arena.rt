@@ -72,7 +72,8 @@ impl<V: Drop> Arena<V> {
         }
     }
 
-    /// Lends the value under a number, where there is one. It takes no memory.
+    /// Lends the value under a number, which may be changed so; None where there is none. It takes
+    /// no memory.
     pub fn get_mut(&mut self, number: u32) -> Option<&mut V>
         ensures* writes_back { sem 𝓛 (LendsSlot V.row self.entry number result) }
         ensures value { option_copied_mut result ≡ map.get self.old number }
@@ -133,7 +134,7 @@ impl<V: Drop> Arena<V> {
         }
     }
 
-    /// How many numbers have a value: few enough that one more can be counted.
+    /// How many numbers have a value: fewer than 2^63, so one more can be counted.
     pub fn len(&self) -> usize
         ensures value { result ≡ map.len self.now }
         ensures small { result < 2 ^ 63 }

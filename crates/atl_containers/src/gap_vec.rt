@@ -25,7 +25,7 @@ impl<T> Model for GapVec<T> {
     ghost invariant = { λ a. a.free + a.free ≤ length a.items.items };
 }
 
-/// Returns the number of elements added: half as many as there were, rounded down, and one.
+/// Adds elements in front, half as many as there were, rounded down, and one; returns how many.
 fn make_room<T: Copy + Drop>(items: &mut Vec<T>) -> Result<usize, AllocError>
     requires { 0 < length items.old.items }
     ensures some { IfOk result (λ free. 0 < free) }
@@ -146,7 +146,7 @@ impl<T: Copy + Drop> GapVec<T> {
         self.free = compact(&mut self.items, free);
     }
 
-    /// How many elements the list has, without the unused ones.
+    /// How many elements the list has, without the unused ones: fewer than 2^63.
     pub fn len(&self) -> usize
         ensures value { result ≡ length self.now }
         ensures small { result < 2 ^ 63 }

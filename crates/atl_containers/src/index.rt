@@ -104,7 +104,7 @@ impl Index {
         }
     }
 
-    /// How many numbers lead to a slot: few enough that one more can be counted.
+    /// How many numbers lead to a slot: fewer than 2^63, so one more can be counted.
     pub fn len(&self) -> usize
         ensures value { result ≡ map.len self.now }
         ensures small { result < 2 ^ 63 }
@@ -120,7 +120,7 @@ impl Index {
     }
 }
 
-/// The guess is the number less the first entry's. It fails if a number between the two is missing.
+/// The guess is the number less the first entry's; None if the number isn't at this index.
 fn guess_position(entries: &[IndexEntry], number: u32) -> Option<usize>
     ensures { IfSome result (λ position. IsAt (index_numbers entries.now) number position) }
 {

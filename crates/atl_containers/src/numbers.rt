@@ -42,7 +42,8 @@ impl Numbers {
         }
     }
 
-    /// Inserts a number before the first one that is not below it. Without memory nothing changes.
+    /// Inserts a number before the first one that is not below it, or at the end if there is none.
+    /// Without memory nothing changes.
     #[tactic(auto, unfolding(crate::specs::Ordered::put_number))]
     pub fn put(&mut self, number: u32) -> Result<(), AllocError>
         ensures ok { OnOk result (self.new ≡ put_number number self.old) }
@@ -53,8 +54,8 @@ impl Numbers {
         Ok(())
     }
 
-    /// Removes the first number that is not below `number`: `number` itself, if the list has it. It
-    /// takes no memory.
+    /// Removes the first number that is not below `number`: `number` itself, if the list has it;
+    /// none if all are below it. It takes no memory.
     #[tactic(auto, unfolding(crate::specs::Ordered::take_number))]
     pub fn take(&mut self, number: u32)
         ensures { self.new ≡ take_number number self.old }

@@ -227,7 +227,6 @@ module _ (trade : Trade) (items : FinMap nat_cmp ℕ) (w : WorldValue) where
         ∙ ap (λ o. Some (paid_unit (trader trade items w n) u o)) (sym (found_other e es n apart))
   ]
 
-  -- `c` is the campaign when the phase began; `d` is the one that the trades so far leave
   module _ (c : CampaignValue) where
     -- the unit of a pair (unit, share) is in campaign `c`, and the share is 0 where the unit has no market for its item
     abbrev Trades : ℕ × ℕ → Type 0

@@ -60,7 +60,6 @@ module _ {needs : Bool} {step : CampaignValue → ℕ × ℕ → CampaignValue} 
         | inr apart ↦ (q, others v.region apart ∙ at)
       ]
 
-  -- `c` is the campaign when the phase began; `d` is the one that the payments so far leave
   module _ (c : CampaignValue) where
     -- payment `e` can be made: its unit is there in `c`, and the unit's region in `d`, if that is needed (`HasRegion`)
     abbrev CanBePaid : CampaignValue → ℕ × ℕ → Type 0
@@ -136,7 +135,7 @@ module _ {needs : Bool} {step : CampaignValue → ℕ × ℕ → CampaignValue} 
               ∙ sym (ap (λ b. Some (gives q (cond b e.1 0 + drawn (draws_region c.units r) es))) other)
         ]
 
--- what units draw from a pot (`drawn`) is the sum of the shares of those units that draw from it
+-- what units draw from a pot (`drawn`) is the sum of the shares, among `es`, of those units that draw from it (`draws`)
 pub drawn_is_sum : (draws : Drawers) (es : List (ℕ × ℕ))
     → drawn draws es ≡ sum (map (λ e. e.1) (filter (λ e. draws e.0) es))
 drawn_is_sum draws [] = refl
@@ -154,8 +153,8 @@ abbrev pub TakersAreThere : Bool → PotMeaning → WorldValue → CampaignValue
 TakersAreThere needs p w c os =
     (n share : ℕ) → get (given_by p w c os) n ≡ Some share → (u : Unit) × (get c.units n ≡ Some u) × HasRegion needs c u
 
--- A phase pays all units at once, if each payment changes its own unit and region alone (`Pays`), and all units that
--- get something are in the campaign (`TakersAreThere`).
+-- A phase pays all units at once, if each payment changes its own unit and region alone (`Pays`). All units that get
+-- something must be in the campaign, and so must their regions if `needs` is true (`TakersAreThere`).
 pub all_at_once : {needs : Bool} (p : PotMeaning) (w : WorldValue) (gets : ℕ → UnitChange) (gives : RegionChange) (c : CampaignValue) (os : List Task)
     → Pays needs (p.paid (items_by p w c os) w) gets gives → TakersAreThere needs p w c os
     → PaysAtOnce p w gets gives c os

@@ -58,8 +58,8 @@ raised_well w c s fresh room can =
     unbooked_change_steps_well w c (raised w c s fresh room can.steady) (record { steady = steady_raised w c s fresh room can.steady; kinds = can.kinds })
     (same_month_by refl) refl (total_raised w c s fresh room can.steady) (λ e t. refl)
 
--- doing more of structure `s`, which has the number `k`, up to its kind's size, is a change that BUILD may make
--- (`StepsWell`); `done` is how much of the structure is done then
+-- Doing more of structure `s`, which has the number `k`, up to its kind's size, is a change that BUILD may make
+-- (`StepsWell`). `done` is how much of the structure is done then.
 pub built_well : (w : WorldValue) (c : CampaignValue) (k : ℕ) (s : Structure) (done : ℕ) (is : get c.structures k ≡ Some s) (more : s.done ≤ done) (most : done ≤ size_of w s.kind) (can : CanBuild w c)
     → StepsWell CanBuild build_remaining w c (built w c k s done is)
 built_well w c k s done is more most can =

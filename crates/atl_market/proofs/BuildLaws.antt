@@ -372,8 +372,8 @@ remaining_within w c can e t = by_thing t
 
 -- ---- the phase
 
--- Each order of BUILD keeps what BUILD needs of the campaign, within the bounds on the books. A unit without an order
--- of its own faction is no worse off (`IsOrderly`).
+-- An order of BUILD that can be read with the world, for a unit of its writer's faction, keeps what BUILD needs, within
+-- the bounds on the books. A unit without an order of its own faction is no worse off (`IsOrderly`).
 pub build_orderly : IsOrderly build_step CanBuild build_remaining build_moves IsOwnOrder IsNoWorse
 build_orderly = record {
   well = λ w a c t x can fit own. well w c t.unit x own.there can t.order_value.operands;
@@ -411,8 +411,8 @@ pub leaves_steady : (w : WorldValue) (c d : CampaignValue) → LeavesWell CanBui
 leaves_steady w c d h =
     record { leaves_it = h.leaves_it.steady; same_month = h.same_month; balances = h.balances; near = h.near }
 
--- a unit can use what it holds of an item of the world (`CanUse`), if the campaign is as BUILD needs it (`CanBuild`)
--- and the books have room for what all units hold (`build_remaining`)
+-- A unit can use any amount of an item of the world that it holds (`CanUse`). This supposes that the campaign is as
+-- BUILD needs it (`CanBuild`), and that the books have room for what all units hold (`build_remaining`).
 pub can_use : (w : WorldValue) (c : CampaignValue) (n item amount : ℕ) (u : Unit) → get c.units n ≡ Some u
     → amount ≤ amount_of u.holding.items item → item < length w.items → CanBuild w c → HaveRoom (build_remaining c) c
     → CanUse w c n item amount
@@ -439,8 +439,8 @@ begun_outcome c n kind k region size = (after_start c n kind k region size, Done
 abbrev continued_outcome : CampaignValue → (n material size structure done : ℕ) → CampaignValue × Outcome
 continued_outcome c n material size structure done = (after_building_on c n material size structure done, Done size)
 
--- Where `BUILD kind` of faction `f` for its unit `n` has no fault, the campaign `d` and the outcome `Done says` that
--- the code makes are those of the order's definition (`begin`). `size` is how much the unit adds.
+-- Where `BUILD kind` of faction `f` for its unit `n` has no fault, the code's campaign `d` and its outcome `Done says`
+-- are those of the order's definition (`begin`). `size` is how much the unit adds.
 pub begin_done : (w : WorldValue) (c d : CampaignValue) (f n kind : ℕ) (u : Unit) (k : Kind) (size says : ℕ)
     → of_faction f (get c.units n) ≡ Some u → begin_fault w c u k ≡ None
     → d ≡ after_start c n kind k u.region size → says ≡ size → size ≡ size_added k u.holding 0
@@ -451,8 +451,8 @@ begin_done w c d f n kind u k size says is none first asked_is size_is =
     let chain : faction_effect (begin w n kind k) c f n ≡ whole = ap (effect_on (begin w n kind k) c) is ∙ ap (λ o. fault_or c o whole) none in
     rw (first, asked_is, size_is) (sym chain)
 
--- Where `BUILD` of faction `f` for its unit `n` inside structure `s` has no fault, the campaign `d` and the outcome
--- `Done says` that the code makes are those of the order's definition (`go_on`). `size` is how much the unit adds.
+-- Where `BUILD` of faction `f` for its unit `n` inside structure `s` has no fault, the code's campaign `d` and its
+-- outcome `Done says` are those of the order's definition (`go_on`). `size` is how much the unit adds.
 pub go_on_done : (w : WorldValue) (c d : CampaignValue) (f n : ℕ) (u : Unit) (s : Structure) (k : Kind) (size says : ℕ)
     → of_faction f (get c.units n) ≡ Some u → get c.structures u.structure ≡ Some s → slice_get w.kinds s.kind ≡ Some k
     → inside_fault u s k ≡ None → d ≡ after_building_on c n k.material size u.structure (s.done + size) → says ≡ size

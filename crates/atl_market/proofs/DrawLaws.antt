@@ -198,7 +198,7 @@ module _ {K : Type 0} (pots : DrawnPots K) where
 
 -- ---- the pots of regions: the units of the region draw from them
 
--- which units, by their numbers, draw from the pot of a region: those that are in the region
+-- which units, by their numbers, draw from the pot of a region: those of `units` that are in the region
 abbrev pub draws_region : FinMap nat_cmp Unit → ℕ → Drawers
 draws_region units r n = is_in_region r (get units n)
 
@@ -260,7 +260,7 @@ module _ (pot_of : ℕ → ℕ) (wants : FinMap nat_cmp ℕ) (c : CampaignValue)
       let few = drawn_among draws amount takers (entries given) (takers_risen wants c.units r) (entries_rise given) each in
       least drawing (pot_of r) (sum (wants_in wants c.units r)) (subst (λ s. drawing ≤ s) (gives_each_pot pot_of wants c r there) few)
 
--- the pot of a region of the campaign is enough for the shares of all units in the region
+-- the pot of a region of the campaign (`pot_of`) is enough for the shares of all units in it, whatever each `wants`
 pub pot_is_enough : (pot_of : ℕ → ℕ) (wants : FinMap nat_cmp ℕ) (c : CampaignValue) (r : ℕ) → HasValue c.regions r
     → drawn (draws_region c.units r) (entries (pot_shares pot_of wants c)) ≤ pot_of r
 pot_is_enough pot_of wants c r there =
@@ -300,8 +300,9 @@ pub record SharesArePayable {K : Type 0} (pots : DrawnPots K) (Fits : ℕ × ℕ
   pub fits : AllByRecursion Fits es
   pub enough : HaveEnough pots d es
 
--- after the first share (`e`) is paid, the later ones can be paid, if only the unit of `e` changed, the campaign is
--- still early, and the pots lost just this share
+-- Where `e` and then `es` can be paid in `d`, `es` can be paid in `after`, once `e` is paid. This supposes that of the
+-- units only that of `e` changed, that `after` is early, and that the pots lost just this share. `Fits` says which
+-- shares a unit can have.
 pub ready_after : {K : Type 0} (pots : DrawnPots K) {Fits : ℕ × ℕ → Type 0} (w : WorldValue) (c d : CampaignValue) (e : ℕ × ℕ) (es : List (ℕ × ℕ)) (after : CampaignValue)
     → SharesArePayable pots Fits w c d (e ∷ es) → IsEarly w after
     → ((k : ℕ) → k ≢ e.0 → get after.units k ≡ get d.units k)

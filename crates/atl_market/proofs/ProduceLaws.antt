@@ -236,7 +236,7 @@ produce_keeps_others w c os =
 
 -- ---- what a unit makes it can make
 
--- an order without a fault names an item of the world
+-- an order of PRODUCE without a fault names an item of the world; `h` is what the unit holds
 pub names_item : (h : HoldingValue) (item : Option Item) → produce_fault h item ≡ None → is_some item ≡ true
 names_item h (Some x) fine = refl
 names_item h None fine = absurd (by_men (h.men == 0) fine)

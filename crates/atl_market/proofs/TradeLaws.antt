@@ -236,8 +236,8 @@ stock_low w c r q i early around = by_amount (get q.stocks i) refl
 abbrev pub draws_item : FinMap nat_cmp Unit → FinMap nat_cmp ℕ → ℕ × ℕ → ℕ → Bool
 draws_item units items k n = is_in_region k.0 (get units n) && asks_for k.1 (get items n)
 
--- The pots of SELL or BUY, by region and item: what is left of one is the market's limit less its stock (SELL), or its
--- stock (BUY). `units` and `items` say which units draw from it (`draws_item`).
+-- The pots of SELL or BUY, by region and item. What is left of one is the market's limit (0 without a market) less the
+-- stock (SELL), or the stock (BUY). `units` and `items` say which units draw from it (`draws_item`).
 abbrev pub item_pots : Trade → WorldValue → FinMap nat_cmp Unit → FinMap nat_cmp ℕ → DrawnPots (ℕ × ℕ)
 item_pots trade w units items =
     record { pot_region = λ k. k.0; draws = draws_item units items; left = λ k q. market_pot trade (limit_of w k.1 k.0) (amount_of q.stocks k.1) }
@@ -359,7 +359,7 @@ trades_give trade w c items wants n share is =
     items_give (get items) (trade_pot trade w c) wants c n share
     (sym (shares_at (get items) (trade_pot trade w c) wants c n) ∙ is)
 
--- SELL and BUY leave units for which their own faction wrote no order of the phase no worse off
+-- SELL and BUY leave units for which their own faction wrote none of the orders `os` no worse off
 pub trade_keeps_others : (trade : Trade) (w : WorldValue) (c : CampaignValue) (os : List Task)
     → OthersAreNoWorse os c (after_sharing (trade_pots trade) w c os)
 trade_keeps_others trade w c os =
@@ -530,7 +530,8 @@ module _ (trade : Trade) (w : WorldValue) (world : IsWorld w) (c : CampaignValue
 
 -- ---- what the code sets, books and marks
 
--- the result of a trade that can be made (`CanTrade`) can be booked (`CanBookTrade`)
+-- The result `d` of a trade that can be made (`CanTrade`) can be booked under Sold or Bought (`CanBookTrade`). `items`
+-- has by unit the item that its order names, and `m` is the market for it.
 pub can_book_result : (trade : Trade) (items : FinMap nat_cmp ℕ) (w : WorldValue) (c : CampaignValue) (n share : ℕ)
     → CanTrade trade items w c (n, share)
     → (u : Unit) (m : Market) (stock : ℕ) (entry : BooksEntry) (d : TradeResult) → get c.units n ≡ Some u

@@ -15,8 +15,8 @@ use Rattle.atl_phase.specs.Bounds.{HaveRoom, moved_times}
 use Rattle.atl_phase.proofs.MeaningLaws.{IsBoundWithin, both_leave_well, room_for_second, room_less, well_unchanged, well_within}
 use Rattle.atl_market.specs.Bounds.{CanInTurn}
 
--- Steps that each move one amount (entry `a`, thing `b`) by at most 999,999,999 move it by less than 10^14 together, if
--- they are at most 100,000 (as many as there may be units).
+-- Steps that each move one amount (entry `a`, thing `b`) by at most 999,999,999, and no other, move it by less than
+-- 10^14 together. Their number `k` is at most 100,000, as many as there may be units.
 pub few_holdings : (k : ℕ) → k ≤ most_units → (a : BooksEntry) (b : Thing) (e : BooksEntry) (t : Thing)
     → moved_times k (moves_only holding_limit a b) e t ≤ moves_only most_moved a b e t
 few_holdings k few a b e t = by_test (amount_number e t == amount_number a b)

@@ -43,7 +43,7 @@ use Rattle.atl_market.proofs.TradeLaws.{traded_others, trades_give}
 
 -- ---- all phases with pots
 
--- the orders of a month whose verbs pass the test `is_of`, whatever the campaign is
+-- the orders of a month that count and whose verbs pass the test `is_of`, whatever the campaign is
 abbrev pub orders_with_verbs : (Verb → Bool) → CampaignValue → MonthValue → List Task
 orders_with_verbs is_of c = orders_by_unit is_of
 
@@ -86,7 +86,7 @@ module _ (p : PotMeaning) (orders : CampaignValue → MonthValue → List Task) 
   unfolding after_sharing
   paid_men paid w c m n u there none = let items = items_by p w c (orders c m) in men_in_turn (p.paid items w) (paid w items) c (entries (given_by p w c (orders c m))) n u there
 
--- where no unit is worse off, units of factions without a mailing have their names, and no less of any item
+-- where no unit is worse off, units of factions without a mailing are there, with their names and no less of any item
 pub none_worse : (w : WorldValue) (c d : CampaignValue) (m : MonthValue) → AreNoWorse c d
     → UnmailedAre HasItsItems m c d
 none_worse w c d m h n u there none = let (v, after, better) = h n u there in record { unit = v; there = after; is_unaffected = items_of_no_worse u v better }

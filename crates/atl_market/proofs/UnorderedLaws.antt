@@ -69,8 +69,8 @@ module _ (step : CampaignValue → ℕ × ℕ → CampaignValue) (others : (c : 
   passed_over c [] n apart = refl
   passed_over c (e ∷ es) n apart = passed_over (step c e) es n apart.1 ∙ others c e n apart.0
 
--- A phase with pots leaves a unit without an order of its own faction as it was. This supposes that payments go only to
--- units with a want, and that each changes its own unit alone.
+-- A phase with pots leaves a unit without an order of its own faction as it was. This supposes that it gives only to
+-- units with a want, at most the want (`GivesToWants`), and that each payment changes its own unit alone.
 pub without_order_stays : (p : PotMeaning) (w : WorldValue)
     → ((items : FinMap nat_cmp ℕ) (c : CampaignValue) (e : ℕ × ℕ) (k : ℕ) → k ≢ e.0 → get (p.paid items w c e).units k ≡ get c.units k)
     → (c : CampaignValue) → GivesToWants p w c → (os : List Task) (n : ℕ) (u : Unit) → get c.units n ≡ Some u
@@ -81,8 +81,8 @@ without_order_stays p w others c gives os n u there none =
     let apart = each-from_every (λ k share. n ≢ k) given (λ k share is same. not_given p w c n u there gives os none share (ap (get given) same ∙ is)) in
     passed_over (p.paid (items_by p w c os) w) (others (items_by p w c os)) c (entries given) n (all_pairs (λ e. n ≢ e.0) (entries given) apart)
 
--- A phase with pots leaves units without an order of their own faction no worse off. This supposes that payments go
--- only to units with a want, and that each changes its own unit alone.
+-- A phase with pots leaves units without an order of their own faction no worse off. This supposes that it gives only
+-- to units with a want, at most the want (`GivesToWants`), and that each payment changes its own unit alone.
 pub others_no_worse : (p : PotMeaning) (w : WorldValue)
     → ((items : FinMap nat_cmp ℕ) (c : CampaignValue) (e : ℕ × ℕ) (k : ℕ) → k ≢ e.0 → get (p.paid items w c e).units k ≡ get c.units k)
     → (c : CampaignValue) → GivesToWants p w c → (os : List Task) → OthersAreNoWorse os c (after_sharing p w c os)

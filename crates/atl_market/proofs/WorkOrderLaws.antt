@@ -103,7 +103,7 @@ module _ {K X : Type 0} (R : K → K → Ordering) (exact : IsAntisymmetric R) (
 abbrev work_key : Task → List ℕ
 work_key = key_of ByUnit
 
--- whether two orders have the same key
+-- whether two orders have the same key: unit, line, faction and index in the mailing
 abbrev pub have_same_key : Task → Task → Bool
 have_same_key a b = eq_by_cmp (slice_cmp nat_cmp) (work_key a) (work_key b)
 
@@ -117,7 +117,7 @@ other_orders_differ_in_key a b differ =
     false_from_ne_true (have_same_key a b)
     (λ h. let e = keys_tie a b h in differ (ap (λ k. get_or k 0 0) e) (ap (λ k. get_or k 2 0) e))
 
--- no two of a month's month-long orders have the same key
+-- no two of a month's month-long orders that count have the same key
 pub month_long_keys_differ : (m : MonthValue) → IsDistinct have_same_key (orders_by_unit is_month_long m)
 month_long_keys_differ m =
     values_apart (slice_cmp nat_cmp) (slice_cmp-IsAntisymmetric nat_cmp-IsAntisymmetric) (key_of ByUnit)
@@ -285,8 +285,8 @@ module _ (c : CampaignValue) (ts : List Task) where
       ap (λ os. written_work ts ++ os)
       (idle_are (entries c.units) (each-from_every (λ n u. get c.units n ≡ Some u) c.units (λ n u is. is)))
 
--- the code's list of all orders of WORK, sorted by its keys, is the list of the definition (`work_orders`); here `os`
--- is the code's list before it is sorted, and `list` after that
+-- The code's list of all orders of WORK, sorted by its keys, is the list of the definition (`work_orders`). Here `os`
+-- is the code's list before it is sorted, and `list` after that.
 pub work_sorted : (c : CampaignValue) (m : MonthValue) (os list : List PhaseOrder)
     → map task_of os ≡ all_work c (orders_by_unit is_month_long m) → IsPermutation os list
     → IsSortedByKey (λ o. key_of ByUnit (task_of o)) (slice_cmp nat_cmp) list → map task_of list ≡ work_orders c m

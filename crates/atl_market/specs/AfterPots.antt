@@ -42,9 +42,9 @@ abbrev pub stock_after : Trade → (stock traded : ℕ) → ℕ
 stock_after Sell stock traded = stock + traded
 stock_after Buy stock traded = stock - traded
 
--- The law that in a world (`IsWorld`) all units trade at once by SELL or BUY, whatever the orders `os`. By SELL a unit
--- with a share and a market gives its share of the item and gets the money for it; others stay as they are. A region's
--- stock of an item grows by all that its units sold of it. By BUY it is the reverse.
+-- The law that in a world (`IsWorld`) all units trade at once by SELL or BUY, in any campaign, by any orders `os`. By
+-- SELL a unit with a share and a market gives its share of the item and gets the money for it; others stay as they are.
+-- A region's stock of an item grows by all that its units sold of it. By BUY they get it for money, and stocks fall.
 abbrev pub TradesAtOnce : Type 0
 TradesAtOnce =
     (trade : Trade) (w : WorldValue) (c : CampaignValue) (os : List Task) → IsWorld w →
@@ -60,8 +60,8 @@ with_more_money u money = record u { holding = record u.holding { money = u.hold
 abbrev pub with_less_money : RegionChange
 with_less_money q taken = record q { money = q.money - taken }
 
--- The law that all units take their share of TAX at once, whatever the orders `os`. Each unit has its share added to
--- its money, and each region loses what its units took.
+-- The law that all units take their share of TAX at once, in any campaign, by any orders `os`. Each unit has its
+-- share added to its money, and each region loses what its units took.
 abbrev pub TaxesAtOnce : Type 0
 TaxesAtOnce =
     (w : WorldValue) (c : CampaignValue) (os : List Task)
@@ -75,8 +75,8 @@ with_recruits w u recruits = record u { holding = with_paid_recruits u.holding r
 abbrev pub with_less_peasants : RegionChange
 with_less_peasants q joined = record q { peasants = q.peasants - joined }
 
--- The law that all recruits of RECRUIT join at once, whatever the orders `os`. Each unit gains its recruits and pays
--- their price, and each region loses as many peasants.
+-- The law that all recruits of RECRUIT join at once, in any campaign, by any orders `os`. Each unit gains its
+-- recruits and pays their price, and each region loses as many peasants as joined its units.
 abbrev pub RecruitsAtOnce : Type 0
 RecruitsAtOnce =
     (w : WorldValue) (c : CampaignValue) (os : List Task)
@@ -92,7 +92,7 @@ abbrev pub with_pieces_added : HoldingValue → (item amount : ℕ) → HoldingV
 with_pieces_added h item amount = record h { items = with_amount_of h.items item (amount_of h.items item + amount) }
 
 -- A unit with `made` pieces more of item `x`, which has the number `item`, and less of the raw items that the pieces
--- take.
+-- take, if they take any.
 abbrev pub maker_of : Unit → (made item : ℕ) → Item → Unit
 maker_of u made item x =
     record u { holding = with_pieces_added (with_raw_taken u.holding x.raw (made * x.raw_count)) item made }
@@ -102,16 +102,16 @@ maker_of u made item x =
 abbrev pub unit_after_production : WorldValue → Unit → (made : ℕ) → Option ℕ → Unit
 unit_after_production w u made asked = option_map_or (λ e. maker_of u made e.0 e.1) (numbered_item w asked) u
 
--- The law that all units make items by PRODUCE at once, whatever the orders `os`. Each gains the pieces that it made
--- and loses the raw items that they take, and no region changes.
+-- The law that all units make items by PRODUCE at once, in any campaign, by any orders `os`. Each gains the pieces
+-- that it made and loses the raw items that they take, if any, and no region changes.
 abbrev pub ProducesAtOnce : Type 0
 ProducesAtOnce =
     (w : WorldValue) (c : CampaignValue) (os : List Task) →
     let asked_item = get (items_by produce_pots w c os) in
     PaysAtOnce produce_pots w (λ n u made. unit_after_production w u made (asked_item n)) unchanged_region c os
 
--- The law that all units are paid for WORK at once, whatever the orders `os`. Each has the wages of its work places
--- added to its money, and no region changes.
+-- The law that all units are paid for WORK at once, in any campaign, by any orders `os`. Each has the wages of its
+-- work places added to its money, and no region changes.
 abbrev pub WorksAtOnce : Type 0
 WorksAtOnce =
     (w : WorldValue) (c : CampaignValue) (os : List Task)

@@ -17,7 +17,7 @@ use Rattle.atl_market.specs.PotPhase.{PotMeaning, after_sharing, given_by}
 abbrev pub is_in_region : ℕ → Option Unit → Bool
 is_in_region region unit = option_map_or (λ u. u.region == region) unit false
 
--- the sum of what the units in a region got; `given` has the amounts by unit
+-- the sum of what those of `units` that are in a region got; `given` has the amounts by unit
 abbrev pub given_in : FinMap nat_cmp ℕ → FinMap nat_cmp Unit → (region : ℕ) → ℕ
 given_in given units region = sum (map (λ e. e.1) (filter (λ e. is_in_region region (get units e.0)) (entries given)))
 
@@ -33,8 +33,8 @@ RegionChange = Region → (given : ℕ) → Region
 abbrev pub paid_unit : UnitChange → Unit → Option ℕ → Unit
 paid_unit gets u share = option_map_or (gets u) share u
 
--- The phase `p` with the orders `os` pays all units at once. `gets n` makes of unit `n` and its share the unit after
--- the phase. `gives` makes of each region and the sum of what its units got the region after the phase.
+-- The phase `p`, which begins in `c` with the orders `os`, pays all units at once. `gets n` makes of unit `n` and its
+-- share the unit after the phase. `gives` makes of each region and the sum of what its units got the region after it.
 pub record PaysAtOnce (p : PotMeaning) (w : WorldValue) (gets : ℕ → UnitChange) (gives : RegionChange)
     (c : CampaignValue) (os : List Task) : Type 0 where
   -- each unit is what `gets` makes of it and its share; a unit without a share is as it was
@@ -52,14 +52,14 @@ unchanged_region q share = q
 
 -- ---- pots by region and item: each changes what the region has of the item
 
--- The sum of what those units in a region got that ask for an item. `asked_item` gives, by a unit's number, the number
--- of the item that it asks for, if any; `given` has the amounts by unit.
+-- The sum of what those of `units` got that are in a region and ask for an item. `asked_item` gives, by the number of a
+-- unit, that of the item that it asks for, if any; `given` has the amounts by unit.
 abbrev pub given_of_item : (asked_item : ℕ → Option ℕ) → FinMap nat_cmp ℕ → FinMap nat_cmp Unit → (region item : ℕ) → ℕ
 given_of_item asked_item given units region item =
     sum (map (λ e. e.1) (filter (λ e. is_in_region region (get units e.0) && asks_for item (asked_item e.0)) (entries given)))
 
--- The region `after` is `q` with only its stocks changed: `becomes` makes of each item's old stock, and of the amount
--- of the item that was given, the new stock.
+-- The region `after` is there, and is `q` with only its stocks changed. `becomes` makes of each item's old stock, and
+-- of how much of the item was `given`, the new stock.
 pub record HasNewStocks (q : Region) (becomes : (stock given : ℕ) → ℕ) (given : (item : ℕ) → ℕ)
     (after : Option Region) : Type 0 where
   -- how many pieces of each item the region `after` has in stock, by the number of the item
@@ -69,9 +69,9 @@ pub record HasNewStocks (q : Region) (becomes : (stock given : ℕ) → ℕ) (gi
   -- `becomes` makes of each item's old stock, and of the amount of the item that was given, the new stock
   pub amounts : (item : ℕ) → amount_of stocks item ≡ becomes (amount_of q.stocks item) (given item)
 
--- The phase `p` with pots of items and the orders `os` pays all units at once. `asked_item n` is the number of the item
--- that unit `n` asks for, if any. `gets n` makes of unit `n` and its share the unit after the phase. `becomes` makes of
--- each stock of a region, and of the sum of its units' shares of the item, the stock after the phase.
+-- The phase `p` with pots of items, which begins in `c` with the orders `os`, pays all units at once. `asked_item n` is
+-- the number of the item that unit `n` asks for, if any. `gets n` makes of unit `n` and its share the unit after it.
+-- `becomes` makes of each stock of a region, and of the sum of its units' shares of the item, the stock after it.
 pub record PaysItemsAtOnce (p : PotMeaning) (w : WorldValue) (asked_item : ℕ → Option ℕ) (gets : ℕ → UnitChange)
     (becomes : (stock given : ℕ) → ℕ) (c : CampaignValue) (os : List Task) : Type 0 where
   -- each unit is what `gets` makes of it and its share; a unit without a share is as it was

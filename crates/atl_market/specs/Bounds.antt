@@ -15,17 +15,17 @@ use Rattle.atl_campaign.specs.Good.{IsSteady}
 use Rattle.atl_campaign.specs.Campaign.{CampaignValue}
 use Rattle.atl_phase.specs.Bounds.{RemainingBound}
 
--- The condition that `step` can be carried out for each element of a list in turn, the first element first: `can` holds
+-- The condition that `step` can be carried out for each element of a list in turn, the first element first. `can` holds
 -- of each in the campaign that the steps ahead of it leave. Payments of shares are such steps.
 abbrev pub CanInTurn : {X : Type 0} → (CampaignValue → X → Type 0) → (CampaignValue → X → CampaignValue)
     → CampaignValue → List X → Type 0
 CanInTurn can step c [] = ⊤
 CanInTurn can step c (x ∷ xs) = can c x × CanInTurn can step (step c x) xs
 
--- what BUILD needs: the campaign is steady, and each kind of the world names a material and a skill of the world
+-- what BUILD needs: the campaign is steady, and each kind of the world keeps the rules of kinds (`IsKind`)
 pub record CanBuild (w : WorldValue) (c : CampaignValue) : Type 0 where
   pub steady : IsSteady w c
-  -- each kind of the world keeps the rules of kinds: its material and its skill are of the world
+  -- each kind of the world keeps the rules of kinds, so its material and its skill are of the world
   pub kinds : (i : ℕ) (k : Kind) → slice_get w.kinds i ≡ Some k → IsKind (length w.items) (length w.skills) k
 
 -- how much of a thing BUILD may still book for a holding under an entry: under Used all that it has of an item, else 0

@@ -38,8 +38,8 @@ is_building verb = false
 
 -- ---- what a unit adds
 
--- How much a unit adds to a structure of kind `k`: the least of its men times their level in the kind's skill, the
--- material held, and what is missing to the kind's size, where `done` of the structure is done already.
+-- How much a unit adds to a structure of kind `k`, of which `done` is done already. It is the least of its men times
+-- their level in the kind's skill, the material held, and what is missing to the kind's size.
 abbrev pub size_added : Kind → HoldingValue → (done : ℕ) → ℕ
 size_added k h done = min (min (h.men * level_in h k.skill) (amount_of h.items k.material)) (k.size - done)
 
@@ -74,18 +74,20 @@ new_structure number kind k region size = record {
   owner = 0;
 }
 
--- a campaign in which one structure more is begun, under the next number of structures; `kind` is the number of `k`
+-- a campaign in which one structure more is begun, with `size` of it done, under the next number of structures; `k` is
+-- the kind with the number `kind`
 abbrev pub with_new_structure : CampaignValue → (kind : ℕ) → Kind → (region size : ℕ) → CampaignValue
 with_new_structure c kind k region size = with_structure_begun c (new_structure c.next_structure kind k region size)
 
--- A campaign after unit `n` used `size` of the material, a structure was begun with it in `region`, and the unit moved
--- from its old one into it, as owner. Without unit `n` it is only begun. `kind` is the number of the kind `k`.
+-- A campaign after unit `n` used `size` of the material, and a structure was begun with it in `region`. The unit leaves
+-- its old structure, if it is in one, and enters the new one as owner. Without unit `n` the structure is only begun.
+-- `kind` is the number of the kind `k`.
 abbrev pub after_start : CampaignValue → (n kind : ℕ) → Kind → (region size : ℕ) → CampaignValue
 after_start c n kind k region size =
     with_place (with_new_structure (with_used c n k.material size) kind k region size) n region c.next_structure
 
--- The effect of `BUILD kind` by unit `n`: a structure is begun, and the outcome is Done with how much of it is done.
--- With a fault nothing changes, and the outcome is the fault.
+-- The effect of `BUILD kind` by unit `n`, where `kind` is the number of the kind `k`: a structure is begun, and Done
+-- says how much of it is done. With a fault nothing changes, and the outcome is the fault.
 unfoldable pub begin : WorldValue → (n kind : ℕ) → Kind → OrderEffect
 begin w n kind k c u =
     let size = size_added k u.holding 0 in
@@ -118,8 +120,9 @@ with_kind w s = option_map (λ k. (s, k)) (slice_get w.kinds s.kind)
 abbrev pub structure_and_kind_at : WorldValue → CampaignValue → (structure : ℕ) → Option (Structure × Kind)
 structure_and_kind_at w c structure = option_and_then (with_kind w) (get c.structures structure)
 
--- The campaign and outcome after `BUILD` by unit `n`, inside the given structure of the given kind, or inside none.
--- With a fault nothing changes. `Done 0` never comes out, as `outside_fault` always finds a fault.
+-- The campaign and outcome after `BUILD` by unit `n`, inside the given structure of the given kind, or inside none. The
+-- unit adds `size_added`, as Done says. With a fault nothing changes, and the fault is the outcome. Inside none there
+-- is always one, so `Done 0` never comes out.
 abbrev pub go_on_at : CampaignValue → (n : ℕ) → Unit → Option (Structure × Kind) → CampaignValue × Outcome
 go_on_at c n u None = fault_or c (outside_fault u) (c, Done 0)
 go_on_at c n u (Some (s, k)) =
@@ -153,7 +156,7 @@ build_moves e t = 0
 -- ---- the phase
 
 -- The specification of the phase BUILD: it carries out orders one by one, and books Used of items (`moved`). A unit for
--- which its own faction wrote no order of BUILD is there and no worse off (`IsOwnOrder`, `IsNoWorse`).
+-- which its own faction wrote no BUILD that counts is there and no worse off (`IsOwnOrder`, `IsNoWorse`).
 abbrev pub build_spec : PhaseSpec
 build_spec = record (goes_by_orders build_step is_building IsOwnOrder IsNoWorse) {
   book_bound = build_moves;

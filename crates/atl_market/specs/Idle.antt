@@ -12,7 +12,7 @@ use Rattle.atl_phase.specs.OrderEffects.{is_of_faction}
 use Rattle.atl_pots.specs.Puts.{with_entries}
 use Rattle.atl_market.specs.Work.{idle_task, written_work}
 
--- the unit of an order with the faction that wrote it, if the unit is of that faction; else nothing
+-- the unit of an order with the faction that wrote it, if the unit is there and of that faction; else nothing
 abbrev pub own_unit : CampaignValue → Task → List (ℕ × ℕ)
 own_unit c t = if is_of_faction t.faction (get c.units t.unit) then (t.unit, t.faction) ∷ [] else []
 
@@ -20,8 +20,8 @@ own_unit c t = if is_of_faction t.faction (get c.units t.unit) then (t.unit, t.f
 abbrev pub own_writers : CampaignValue → List Task → FinMap nat_cmp ℕ
 own_writers c ts = with_entries empty (flat_map (own_unit c) ts)
 
--- The set `units` with the unit of an order added, if the unit is of the `faction` that wrote the order. The code
--- collects the units with an order of their own faction so.
+-- The set `units` with the unit of an order added, if the unit is there and of the `faction` that wrote the order. The
+-- code collects the units with an order of their own faction so.
 abbrev pub with_writer : CampaignValue → (unit faction : ℕ) → set.FinSet nat_cmp → set.FinSet nat_cmp
 with_writer c unit faction units = if is_of_faction faction (get c.units unit) then set.insert units unit else units
 
@@ -30,7 +30,7 @@ with_writer c unit faction units = if is_of_faction faction (get c.units unit) t
 abbrev pub idle_order : FinMap nat_cmp ℕ → ℕ × Unit → List Task
 idle_order writers (n, u) = if nat_lt 0 u.holding.men && not (is_some (get writers n)) then idle_task n u.faction ∷ [] else []
 
--- an order of WORK for each unit with men for which its own faction wrote none of the orders `ts`, by unit
+-- an order of WORK for each unit with men for which its own faction wrote none of the orders `ts`, by unit number
 abbrev pub all_idle_orders : CampaignValue → List Task → List Task
 all_idle_orders c ts = flat_map (idle_order (own_writers c ts)) (entries c.units)
 

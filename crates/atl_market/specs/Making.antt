@@ -16,8 +16,8 @@ use Rattle.atl_campaign.specs.Campaign.{CampaignValue}
 use Rattle.atl_phase.specs.Bounds.{HasRoom, HaveRoom}
 use Rattle.atl_market.specs.Produce.{produce_moves, with_raw_used}
 
--- unit `n` can use up `amount` of item `i`, which is booked as used: it is there and holds enough, the world has the
--- item, the campaign is steady, and the books have room for it
+-- Unit `n` can use up `amount` of item `i`, which is booked as used. It is there and holds enough, the world has the
+-- item, the campaign is steady, and the books have room for the amount.
 pub record CanUse (w : WorldValue) (c : CampaignValue) (n i amount : ℕ) : Type 0 where
   pub unit : Unit
   pub there : get c.units n ≡ Some unit
@@ -26,8 +26,8 @@ pub record CanUse (w : WorldValue) (c : CampaignValue) (n i amount : ℕ) : Type
   pub steady : IsSteady w c
   pub room : HasRoom amount (amount_in c.books Used (things.Item i))
 
--- unit `n` can make `amount` of item `i`: it is there and has room for it, and so have the books; the world has the
--- item, and the campaign is steady
+-- Unit `n` can make `amount` of item `i`. It is there and has room for the amount, and so have the books. The world has
+-- the item, and the campaign is steady.
 pub record CanMake (w : WorldValue) (c : CampaignValue) (n i amount : ℕ) : Type 0 where
   pub unit : Unit
   pub there : get c.units n ≡ Some unit
@@ -55,8 +55,8 @@ pub record HasRoomAndRaw (w : WorldValue) (u : Unit) (made i : ℕ) (x : Item) :
   pub raw : (r : ℕ) → x.raw ≡ Some r → made * x.raw_count ≤ amount_of u.holding.items r
 
 -- The unit of a pair (unit, share) can make its share of the item that its order names, which `asked` has by unit. The
--- unit is there, and has room and raw items for the share. The campaign is steady, and the books have room for
--- 999,999,999 of each item made, and as much used.
+-- unit is there, and has room and raw items for the share, if the world has the item. The campaign is steady, and the
+-- books have room for 999,999,999 of each item made, and as much used.
 pub record CanProduce (asked : FinMap nat_cmp ℕ) (w : WorldValue) (c : CampaignValue) (e : ℕ × ℕ) : Type 0 where
   pub unit : Unit
   pub there : get c.units e.0 ≡ Some unit

@@ -131,6 +131,6 @@ module _ (p : PotMeaning) (w : WorldValue) (c : CampaignValue) where
 abbrev pub pots_meaning : PotMeaning → (CampaignValue → MonthValue → List Task) → Meaning
 pots_meaning p orders w c m = (after_sharing p w c (orders c m), with_events m (events_by p w c (orders c m)))
 
--- the meaning of a phase with pots whose orders are those of the month with the phase's verbs
+-- the meaning of a phase with pots whose orders are those of the month that count and have its verbs (`is_of`)
 abbrev pub pots_by_orders : PotMeaning → (Verb → Bool) → Meaning
 pots_by_orders p is_of = pots_meaning p (λ c m. orders_by_unit is_of m)

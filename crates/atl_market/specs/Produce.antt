@@ -46,8 +46,8 @@ numbered_item w asked = option_and_then (λ i. option_map (λ x. (i, x)) (slice_
 abbrev pub up_to_raw : HoldingValue → (count : ℕ) → (raw : Option ℕ) → (most : ℕ) → ℕ
 up_to_raw h count raw most = option_map_or (λ r. min (amount_of h.items r / count) most) raw most
 
--- The most of an item that a unit can make: the least of its men times their level in the item's skill, its room for
--- the item, and what its raw items allow.
+-- The most of an item, with the number `item`, that a unit can make. It is the least of its men times their level in
+-- the item's skill, its room for the item, and what its raw items allow, if the item takes any.
 abbrev pub most_makeable_of : HoldingValue → (item : ℕ) → Item → ℕ
 most_makeable_of h i x =
     up_to_raw h x.raw_count x.raw (min (h.men * level_in_any h x.skill) (holding_limit - amount_of h.items i))
@@ -62,7 +62,7 @@ most_makeable w h asked = option_map_or (λ e. most_makeable_of h e.0 e.1) (numb
 abbrev pub takes_raw : WorldValue → Option ℕ → Bool
 takes_raw w asked = option_map_or (λ x. is_some x.raw) (item_of w asked) true
 
--- The item that unit `n` makes out of what its region gives: the one that its order names, unless it `takes_raw`.
+-- The item that unit `n` makes out of what its region gives: the one that its order names; None if `takes_raw` holds.
 -- Here and below, `asked` has by unit the number of the item that its order names, and `wants` how many it wants.
 abbrev pub output_item : WorldValue → FinMap nat_cmp ℕ → ℕ → Option ℕ
 output_item w asked n = if takes_raw w (get asked n) then None else get asked n
@@ -124,8 +124,8 @@ produce_fault h (Some x) =
 
 -- ---- the phase
 
--- PRODUCE as a phase with pots: faults, wants and shares by the item that each order names. The event says how many
--- were made.
+-- PRODUCE as a phase with pots: a region's pot of an item is what its terrain gives of it. An item that is made of raw
+-- items comes out of no pot. The event says how many were made.
 abbrev pub produce_pots : PotMeaning
 produce_pots = record {
   fault = λ w u t. produce_fault u.holding (item_of w (item_in t.order_value.operands));
@@ -145,7 +145,7 @@ produce_moves most Made (things.Item i) = most
 produce_moves most Used (things.Item i) = most
 produce_moves most e t = 0
 
--- what PRODUCE leaves alone: each unit for which its own faction wrote no order of PRODUCE is there and no worse off
+-- what PRODUCE leaves alone: units for which their own faction wrote no PRODUCE that counts are there, no worse off
 abbrev pub produce_keeps : Frame
 produce_keeps = no_worse_without_order is_produce
 

@@ -31,11 +31,11 @@ is_recruit verb = false
 abbrev pub recruit_fault : WorldValue → Unit → Option EventFault
 recruit_fault w u = first_fault ((nat_lt u.holding.money w.rules.recruit_price, NotEnough) ∷ [])
 
--- how many recruits a unit wants: the least of what its order asks for, what it can pay for, and its room for men
+-- how many recruits a unit wants: the least of what its order `asked` for, what it can pay for, and its room for men
 abbrev pub recruit_want : WorldValue → Unit → ℕ → ℕ
 recruit_want w u asked = min asked (min (u.holding.money / w.rules.recruit_price) (men_limit - u.holding.men))
 
--- how many of a region's peasants can be recruited this month, which is its pot; 0 where there is no region
+-- a region's pot of recruits: its peasants divided by `recruit_fraction`, rounded down; 0 where there is no region
 abbrev pub recruits_at : WorldValue → CampaignValue → ℕ → ℕ
 recruits_at w c region = option_map_or (λ q. q.peasants / w.rules.recruit_fraction) (get c.regions region) 0
 
@@ -53,7 +53,7 @@ after_recruiting w c (n, recruits) =
     let joined = with_holding c n (with_paid_recruits u.holding recruits cost) in
     with_booking (with_peasants joined u.region (q.peasants - recruits)) Recruiting Money (neg_ℤ (pos cost))))
 
--- RECRUIT as a phase with pots: each order asks for a number of recruits. The event says how many joined.
+-- RECRUIT as a phase with pots: each region's pot is those who can be recruited. The event says how many joined.
 abbrev pub recruit_pots : PotMeaning
 recruit_pots = record {
   fault = λ w u t. recruit_fault w u;
@@ -71,7 +71,7 @@ recruit_meaning = pots_by_orders recruit_pots is_recruit
 abbrev pub recruit_moves : ℕ → BookBound
 recruit_moves most = moves_only most Recruiting Money
 
--- what RECRUIT leaves alone: each unit for which its own faction wrote no order of RECRUIT is there and no worse off
+-- what RECRUIT leaves alone: units for which their own faction wrote no RECRUIT that counts are there, no worse off
 abbrev pub recruit_keeps : Frame
 recruit_keeps = no_worse_without_order is_recruit
 

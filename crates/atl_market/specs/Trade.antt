@@ -57,8 +57,8 @@ abbrev pub trade_fault : Trade → HoldingValue → Option Market → Option Eve
 trade_fault trade h None = Some NoMarket
 trade_fault trade h (Some m) = first_fault ((has_too_little trade h m, NotEnough) ∷ [])
 
--- The most pieces that a unit can trade with a market. SELL is limited by its amount of the item and its room for
--- money, BUY by its money and its room for the item.
+-- The most pieces that a unit can trade with a market. SELL is limited by its amount of the item and, at `pays` each,
+-- its room for money; BUY, at `price` each, by its money, and by its room for the item.
 abbrev pub most_tradable : Trade → HoldingValue → Market → ℕ
 most_tradable Sell h m = min (amount_of h.items m.item) ((holding_limit - h.money) / m.pays)
 most_tradable Buy h m = min (h.money / m.price) (holding_limit - amount_of h.items m.item)
@@ -78,14 +78,15 @@ market_pot Buy limit stock = stock
 abbrev pub limit_of : WorldValue → (item region : ℕ) → ℕ
 limit_of w item region = option_map_or (λ m. m.limit) (market_of w region item) 0
 
--- how much of an item there is to share in a region: its market's limit less its stock for SELL, its stock for BUY
+-- how much of an item there is to share in a region: for SELL its market's limit (0 without a market) less its stock,
+-- for BUY its stock
 abbrev pub trade_pot : Trade → WorldValue → CampaignValue → (item region : ℕ) → ℕ
 trade_pot trade w c item region = market_pot trade (limit_of w item region) (stock_of c region item)
 
 -- ---- what changes
 
--- The result of trading `share` pieces with a market that has `stock` pieces: the unit's money, its amount of the item
--- and the stock after it, and the money to book, with a minus for BUY.
+-- The result of trading `share` pieces with a market that has `stock` pieces. It has the unit's money, its amount of
+-- the item and the stock after the trade, and the money to book, with a minus for BUY.
 abbrev pub trade_result_of : Trade → HoldingValue → (stock share : ℕ) → Market → TradeResult
 trade_result_of Sell h stock share m = record {
   money = h.money + share * m.pays;
@@ -127,8 +128,8 @@ after_trade trade items w c (n, share) =
 
 -- ---- the phases
 
--- SELL or BUY as a phase with pots, by the item and the number that each order names. The event says how many were
--- traded.
+-- SELL or BUY as a phase with pots, one for each region and item (`trade_pot`). Each order names an item and asks for a
+-- number of pieces. The event says how many were traded.
 abbrev pub trade_pots : Trade → PotMeaning
 trade_pots trade = record {
   fault = λ w u t. trade_fault trade u.holding (market_for w u (item_in t.order_value.operands));
@@ -146,7 +147,7 @@ trade_meaning trade = pots_by_orders (trade_pots trade) (is_trade trade)
 abbrev pub trade_moves : Trade → ℕ → BookBound
 trade_moves trade most = moves_only most (trade_entry trade) Money
 
--- what SELL or BUY leaves alone: units for which their own faction wrote no order of the phase are there, no worse off
+-- what SELL or BUY leaves alone: units for which their own faction wrote none that counts are there, no worse off
 abbrev pub trade_keeps : Trade → Frame
 trade_keeps trade = no_worse_without_order (is_trade trade)
 

@@ -55,7 +55,7 @@ pub record CanTrade (trade : Trade) (items : FinMap nat_cmp ℕ) (w : WorldValue
   -- the books have room for 999,999,999 money of the trade, sold or bought
   pub room : HaveRoom (trade_moves trade holding_limit) c
 
--- The result `d` of a trade can be booked under `entry`, such as Sold: it is within the limits of unit `n`, which is
+-- The result `d` of a trade can be booked under `entry`, such as Sold. It is within the limits of unit `n`, which is
 -- there, and the books have room for its money.
 pub record CanBookTrade (c : CampaignValue) (n : ℕ) (entry : BooksEntry) (d : TradeResult) : Type 0 where
   pub unit : Unit

@@ -38,7 +38,7 @@ idle_task unit faction = record { faction = faction; unit = unit; line = 0; inde
 abbrev pub is_idle : List Task → ℕ × Unit → Bool
 is_idle ts (n, u) = nat_lt 0 u.holding.men && not (has_own_order ts n u)
 
--- an order of WORK for each unit with men for which its own faction wrote none of the orders `ts`, by unit
+-- an order of WORK for each unit with men for which its own faction wrote none of the orders `ts`, by unit number
 abbrev pub idle_work : CampaignValue → List Task → List Task
 idle_work c ts = map (λ e. idle_task e.0 e.1.faction) (filter (is_idle ts) (entries c.units))
 
@@ -51,8 +51,8 @@ is_work verb = false
 abbrev pub written_work : List Task → List Task
 written_work ts = filter (λ t. is_work t.order_value.verb) ts
 
--- The orders of the phase WORK, sorted as those of other phases: the month-long ones that are WORK, and one for each
--- unit with men without a month-long order of its own faction.
+-- The orders of the phase WORK, sorted by unit, line and faction. They are the orders of WORK that count, and one for
+-- each unit with men for which its own faction wrote no month-long order that counts.
 unfoldable pub work_orders : CampaignValue → MonthValue → List Task
 work_orders c m =
     let month_long = orders_by_unit is_month_long m in
@@ -73,7 +73,7 @@ abbrev pub work_want : Unit → Option Terrain → ℕ
 work_want u terrain =
     option_map_or (λ t. min u.holding.men ((holding_limit - u.holding.money) / t.wage)) terrain 0
 
--- the wages, in money, that this number of work places in a region pays
+-- the wages, in money, that this number of work places in a region pays; 0 where there is no terrain
 abbrev pub wages_for : WorldValue → ℕ → ℕ → ℕ
 wages_for w region places = places * wage_at w region
 

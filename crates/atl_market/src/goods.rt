@@ -1,4 +1,5 @@
 //! Takes used items from a unit and gives it made items; both are booked. `number` is the unit's.
+//! AllocError without memory; nothing is promised of the campaign then.
 ghost use Rattle.std.specs.Prelude.{◌≡◌, OnOk, Some};
 ghost use Rattle.std.specs.FinMap as map;
 ghost use Rattle.atl_campaign.specs.Covers.{MarksChanges};

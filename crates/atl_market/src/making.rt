@@ -1,4 +1,5 @@
-//! How much of an item a unit can make, and making it. See docs/RULES.md, "Producing".
+//! How much of an item a unit can make, and making it. `asked` is the number of the item that an
+//! order names, if it names one. See docs/RULES.md, "Producing".
 ghost use Rattle.std.specs.Prelude.{ℕ, ◌≡◌, ◌≤◌, ◌*◌, IfSome, OnOk, is_some, true};
 ghost use Rattle.std.specs.Option.{option_copied};
 ghost use Rattle.atl_world.specs.Limits.{most_amount};
@@ -109,7 +110,8 @@ fn use_raw(
     }
 }
 
-/// Unit `number` makes `made` pieces of the item `found`, which has the number `item`.
+/// Unit `number` makes `made` pieces of the item `found`, which has the number `item`, and uses up
+/// the raw items for them, if any. AllocError may leave the campaign changed in part.
 pub(crate) fn make(
     world: &World,
     campaign: &mut Campaign,

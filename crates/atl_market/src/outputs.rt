@@ -1,5 +1,6 @@
 //! How much each unit makes in PRODUCE: its share of what the terrain of its region gives, or, out
-//! of raw items, all that it wants. See docs/RULES.md, "Producing".
+//! of raw items, all that it wants. `asked` has by unit the item that its order names, and `wants`
+//! how many it wants. See docs/RULES.md, "Producing".
 ghost use Rattle.std.specs.Prelude.{⊤, ◌≡◌, map, IfOk};
 ghost use Rattle.atl_pots.specs.ItemPots.{item_shares};
 ghost use Rattle.atl_pots.specs.Pots.{AreWants};
@@ -16,7 +17,6 @@ use std::alloc::{AllocError, Global};
 #[derive(Drop)]
 struct Outputs<'a> {
     world: &'a World,
-    /// The item that each unit's order names, by unit.
     asked: &'a Numbered<u16>,
 }
 
@@ -82,8 +82,8 @@ fn amount_made(
     }
 }
 
-/// How much each unit that has a want makes, by unit; `asked` has by unit the item that its order
-/// names. AllocError without memory.
+/// How much each unit that has a want makes, by unit. No want is above 999,999,999. AllocError
+/// without memory.
 pub(crate) fn made_amounts(
     alloc: Global,
     world: &World,

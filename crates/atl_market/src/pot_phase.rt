@@ -54,9 +54,9 @@ pub(crate) trait PotPhase {
             (task_of order.entry) }
         ensures bound { result ≤ most_amount };
 
-    /// How much each unit gets, by unit, worked out from `items`, the item that each unit's order
-    /// names, and `wants`, how much each unit wants (at most 999,999,999), both by unit. AllocError
-    /// without memory.
+    /// How much each unit gets, by unit. It is worked out from `items`, the item that each unit's
+    /// order names, and `wants`, how much each unit wants (at most 999,999,999), both by unit. The
+    /// campaign is as the phase needs it (`needs`). AllocError without memory.
     fn grants(
         &self,
         alloc: Global,
@@ -76,8 +76,8 @@ pub(crate) trait PotPhase {
         ensures { result ≡ PotMeaning.event_number (meaning self.now) world.now unit.now share };
 
     /// Gives a unit, by its number, its share of the pot of its region, or of the pot of its item
-    /// there, which `items` has by unit. AllocError without memory; the campaign may then be
-    /// changed in part.
+    /// there, which `items` has by unit. The share can be paid (`can_pay`). AllocError without
+    /// memory; the campaign may then be changed in part.
     fn pay(
         &self,
         world: &World,
@@ -251,9 +251,9 @@ fn pay_all<P: PotPhase>(
 
 /// Shares the pots of all regions among the units by their orders, all at once, and returns an
 /// event for each order. Who takes part, what each wants and what there is to share is read from
-/// the campaign as it is handed in. The shares are then paid one by one, which must be possible
-/// (`can`). AllocError without memory; the campaign may then be changed in part. See docs/RULES.md,
-/// "Pots".
+/// the campaign as it is handed in. Campaign and operands are as the phase needs them (`needs`,
+/// `asks`), and the shares can be paid one by one (`can`). AllocError without memory; the campaign
+/// may then be changed in part. See docs/RULES.md, "Pots".
 #[tactic(auto, unfolding(crate::specs::PotPhase::after_sharing, crate::specs::PotPhase::events_by))]
 pub(crate) fn share_out<P: PotPhase>(
     alloc: Global,

@@ -318,9 +318,10 @@ impl<const SELLS: bool> Phase for TradePhase<SELLS> {
 }
 
 /// The law that in a world (`IsWorld`) all units sell at once, and all buy at once. By SELL a unit
-/// gives its share of the item that it had as the phase began and gets the money for it, and a
-/// region's stock of an item grows by all that its units sold of it; by BUY the reverse. Nothing
-/// else of units and regions changes. Does nothing. See docs/RULES.md, "Selling" and "Buying".
+/// gives its share of the item that it had as the phase began and gets the money for it. A region's
+/// stock of an item grows by all that its units sold of it. By BUY units get the item for money,
+/// and the stock falls. Nothing else changes of units and regions. Does nothing. See docs/RULES.md,
+/// "Selling" and "Buying".
 pub fn units_trade_all_at_once()
     ensures { TradesAtOnce }
 {}

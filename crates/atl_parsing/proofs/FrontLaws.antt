@@ -74,7 +74,7 @@ lookup_after_prefix (x ∷ w) t (y ∷ p) h =
 
 -- ---- a number after a prefix
 
--- the row of a parameter alone, which matches a text that isn't empty and has no slash
+-- the row of a parameter alone, with this key; it matches a text that isn't empty and has no slash
 abbrev pub number_row : ℕ → Rows
 number_row key = (param_token ∷ [], key) ∷ []
 
@@ -112,7 +112,7 @@ or_either : (key : ℕ) (a b : Option ℕ) → IsKeyOrNone key a → IsKeyOrNone
 or_either key a b (inl e) h = inl (ap (λ x. or_else x b) e)
 or_either key a b (inr e) h = subst (λ x. IsKeyOrNone key (or_else x b)) (sym e) h
 
--- a row with nothing left to match finds nothing for a path that has bytes left
+-- a row with nothing left to match finds nothing for a path that has bytes left, the first of them `b`
 pub end_none : (key b : ℕ) (p : List ℕ) → seek 0 (([], key) ∷ []) (b ∷ p) ≡ None
 unfolding seek
 end_none key b p = simp (seek-empty 0 p, param_step-empty (b ∷ p), seek-empty ((param_step {K = ℕ} [] (b ∷ p)).0 - 1) p)
@@ -165,8 +165,8 @@ digits_utf8 p h = all_utf8 is_ascii_digit (λ b e. grind (arith, nat_tests)) p h
 pub ascii_utf8 : (p : List ℕ) → list_all (λ b. ltb b 128) p ≡ true → IsUtf8 p
 ascii_utf8 p h = all_utf8 (λ b. ltb b 128) (λ b e. grind (arith, nat_tests)) p h
 
--- What looking up a text in the row of a parameter finds: the row's key, and then the text is UTF-8 or no number; or
--- nothing, and then the text is no number.
+-- What looking up a text in the row of a parameter finds. It finds the row's key, and then the text is UTF-8 or no
+-- number; or nothing, and then the text is no number.
 abbrev pub IsNumberLookup : ℕ → List ℕ → Type 0
 IsNumberLookup key rest =
     ((first (number_row key) rest ≡ Some key) × ((number_of rest ≡ None) ⊎ IsUtf8 rest)) ⊎

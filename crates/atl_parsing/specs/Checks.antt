@@ -27,8 +27,7 @@ or_problem problem (Some x) = Ok x
 
 -- ---- the first check: a request of HTTP/1.1 has exactly one Host
 
--- whether a request of HTTP/1.1 has exactly one field Host; one of HTTP/1.0 needs none. `minor` is the digit after
--- `HTTP/1.`
+-- whether a request of HTTP/1.1 has exactly one field Host; one of HTTP/1.0 needs none
 unfoldable pub has_host : (minor : ℕ) → List Pair → Bool
 has_host minor fields = minor == 0 || is_some (single_value (values_of (codes "Host") fields))
 
@@ -49,8 +48,8 @@ requested_route minor method target fields =
 
 -- ---- the third: how many bytes the body of a POST has
 
--- the length of a body, by the number that Content-Length writes: BadRequest if it writes none, BodyTooLong if it is
--- greater than the length that a mailing may have
+-- The length of a body, by the number that Content-Length writes. It is BadRequest if it writes none, and BodyTooLong
+-- if the number is above 65,536, as many bytes as a mailing may have.
 abbrev pub size_within : Option ℕ → Result ℕ Problem
 size_within None = Err BadRequest
 size_within (Some n) = if nat_lt most_bytes n then Err BodyTooLong else Ok n
@@ -89,7 +88,7 @@ size_of (Report faction) fields = Ok 0
 unfoldable pub pass_field : List Pair → Result (List ℕ) Problem
 pass_field fields = or_problem NoPass (single_value (values_of (codes "Atlantis-Pass") fields))
 
--- the pass text that a route needs in the head, else NoPass; empty for a join, which needs none there
+-- the pass text that a route needs in the head, NoPass unless there is exactly one; empty for a join, which needs none
 abbrev pub pass_of : Route → List Pair → Result (List ℕ) Problem
 pass_of Join fields = Ok []
 pass_of (Orders faction) fields = pass_field fields

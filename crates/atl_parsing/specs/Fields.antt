@@ -12,7 +12,7 @@ Pair = List ℕ × List ℕ
 abbrev pub fields_of : RequestHead → List Pair
 fields_of head = map name_and_value head.fields
 
--- the values of all fields of a name, ignoring ASCII case
+-- the values of all fields of a name, in their order; the ASCII case of names is ignored
 unfoldable pub values_of : List ℕ → List Pair → List (List ℕ)
 values_of name fields = map (λ f. f.1) (filter (λ f. str_eq_ignore_ascii_case f.0 name) fields)
 

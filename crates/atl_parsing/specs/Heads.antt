@@ -29,8 +29,8 @@ pub record HasHead (input : List ℕ) (head : RequestHead) (rest : List ℕ) : T
   -- the head has at most 32 fields
   pub fields : length head.fields ≤ most_fields
 
--- Whatever bytes follow, the input has no head of at most 32 fields. It never begins with a head; or each head that it
--- may begin with then has more fields, and bytes at its front, with an empty line after them, already are such a head.
+-- Whatever bytes follow, the input has no head of at most 32 fields. Either it never begins with a head. Or each head
+-- that it then begins with has more fields, and bytes at its front, with an empty line after them, already are such.
 abbrev pub IsRefused : List ℕ → Type 0
 IsRefused input = NeverHasRequest input ⊎ (RequestExceeds most_fields input × RequestOverflows most_fields input)
 

@@ -34,7 +34,8 @@ abbrev pub allow_line : Option Route → List ℕ
 allow_line None = []
 allow_line (Some route) = codes "Allow: " ▸ method_of route ▸ codes "\r\n"
 
--- the status line, without a reason phrase if the status has none, and the three fields that every reply begins with
+-- the status line, without a reason phrase if the status has none, and three fields that every reply has: Content-Type
+-- (`kind`), the length of the body, and Connection
 unfoldable pub head_of : (status : ℕ) → (kind body : List ℕ) → List ℕ
 head_of status kind body =
     codes "HTTP/1.1 " ▸ decimal status ▸ codes " " ▸ unwrap_or (reason_phrase status) [] ▸ codes "\r\nContent-Type: " ▸ kind

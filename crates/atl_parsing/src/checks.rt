@@ -1,4 +1,6 @@
-//! Checks the head and the body of a request, in the order of docs/FORMATS.md, "HTTP".
+//! Checks the head and the body of a request, in the order of docs/FORMATS.md, "HTTP". `minor` is
+//! the digit after `HTTP/1.`, and `method` and `target` are the first two words, as `GET` and
+//! `/report/3`. `fields` says where in `bytes` name and value of each field are.
 ghost use Rattle.std.specs.Prelude.{◌≡◌, All, length, bytes_eq};
 ghost use Rattle.httparse.specs.Spans.{IsHeaderWithin};
 ghost use Rattle.serde_json.specs.View.{view};
@@ -137,8 +139,7 @@ pub(crate) struct ParsedHead<'a> {
 }
 
 /// Checks a head: its route, body length and pass text, or the problem of the first check that it
-/// fails. `minor` is the digit after `HTTP/1.`, and the spans of `fields` lie within `bytes`.
-/// Memory without memory for the routes.
+/// fails. The spans of `fields` lie within `bytes`. Memory without memory for the routes.
 #[tactic(auto, unfolding(crate::specs::Checks::head_checks))]
 pub fn head_checks<'a>(
     alloc: Global,

@@ -1,4 +1,4 @@
-//! Looks up the header fields of a request by name.
+//! Looks up the header fields of a request by name. They are given as spans within `bytes`.
 ghost use Rattle.std.specs.Prelude.{◌≡◌, All, length, option_map};
 ghost use Rattle.std.specs.Str.{str_eq_ignore_ascii_case};
 ghost use Rattle.httparse.specs.Spans.{IsHeaderWithin};
@@ -30,8 +30,7 @@ fn add_value(found: FieldLookup, value: Span) -> FieldLookup
     }
 }
 
-/// Looks up a name among the fields of a head, ignoring ASCII case. The fields are given as spans
-/// that lie within `bytes`.
+/// Looks up a name among the fields of a head, ignoring ASCII case.
 #[tactic(auto, unfolding(crate::specs::Fields::values_of))]
 pub fn find_value(bytes: &[u8], fields: &[HeaderSpan], name: &[u8]) -> FieldLookup
     requires { All (IsHeaderWithin (length bytes.now)) fields.now }
@@ -47,7 +46,7 @@ pub fn find_value(bytes: &[u8], fields: &[HeaderSpan], name: &[u8]) -> FieldLook
 }
 
 /// The value of the field of this name, if exactly one field has the name, ignoring ASCII case;
-/// else None. The fields are given as spans that lie within `bytes`.
+/// else None.
 pub(crate) fn only_value<'a>(
     bytes: &'a [u8],
     fields: &[HeaderSpan],

@@ -13,7 +13,7 @@ use std::fmt;
 /// docs/FORMATS.md, "HTTP".
 #[derive(Drop, Clone, Copy, Debug, PartialEq, Eq)]
 pub enum Problem {
-    /// The head is none of HTTP/1, is too long, or has too many fields; or it has, in HTTP/1.1, not
+    /// The head is none of HTTP/1, is too long, or has too many fields. Or it has, in HTTP/1.1, not
     /// one Host, or, in a POST, several fields Content-Length or a faulty one.
     BadRequest,
     /// No route has this path.
