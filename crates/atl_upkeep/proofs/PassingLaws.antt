@@ -300,8 +300,8 @@ module _ (w : WorldValue) (c : CampaignValue) (n k : ℕ) (apart : n ≢ k) (ste
 
 -- ---- all that a unit has
 
--- Items of the world that go in turn to unit `k`, up to the unit's room, with the rest booked as lost, are passed on
--- from unit `n` (`PassesOn`). This supposes that the campaign is steady, and that `n` isn't `k`.
+-- Items of the world (`es`) go in turn to unit `k`, if it is there, up to its room, with the rest booked as lost. In a
+-- steady campaign they are then passed on from unit `n` (`PassesOn`), if `n` isn't `k`.
 pub pass_items : (w : WorldValue) (c : CampaignValue) (n k : ℕ) → n ≢ k → (es : List (ℕ × ℕ))
     → EachEntry (λ i a. i < length w.items) es → IsSteady w c
     → PassesOn w n (held_in_items es) (items_bound es) c (fold (after_passing_item k) c es)

@@ -70,7 +70,7 @@ module _ (w : WorldValue) (left men : ℕ) (fewer : left ≤ men) where
       factors_swap : (most_days * men) * left ≡ men * (most_days * left)
       factors_swap = grind arith
 
--- the days of each skill that stay with `left` of a holding's men
+-- the days of each skill that stay with `left` of a holding's men: the days times `left` / its men, rounded down
 abbrev pub days_left : ℕ → HoldingValue → FinMap nat_cmp ℕ
 days_left left h = amounts_for (going_of left h) (keys h.days)
 
@@ -248,14 +248,14 @@ other_unit c s n apart = by_unit (get c.units s.unit)
     by_unit None = refl
     by_unit (Some u) = get-insert_other c.units s.unit n (record u { holding = after_upkeep s u.holding }) apart
 
--- if units are there as listed, and all have greater numbers than another one, they are still so after its upkeep
+-- if units are there as listed, and all have greater numbers than the unit of `s`, they are still so after its upkeep
 pub each_still : (c : CampaignValue) (s : UpkeepResult) (es : List (ℕ × Unit)) → AllByRecursion (λ e. s.unit < e.0) es
     → EachEntry (λ n u. get c.units n ≡ Some u) es → EachEntry (λ n u. get (upkeep_at c s).units n ≡ Some u) es
 each_still c s [] above there = tt
 each_still c s (e ∷ es) above there =
     (other_unit c s e.0 (λ same. omega (arith, above.0, same)) ∙ there.0, each_still c s es above.1 there.1)
 
--- what upkeep takes from one unit, where `all` are the units of the campaign, at this maintenance for each man
+-- what upkeep takes from unit `p`, at maintenance `m`; of all units those of its faction in its region alone count
 abbrev pub upkeep_result_one : ℕ → (all : List UpkeepInput) → UpkeepInput → UpkeepResult
 upkeep_result_one m all p = upkeep_result_among m (peers_of p.region p.faction all) p
 
@@ -441,8 +441,8 @@ module _ (m : ℕ) (all : List UpkeepInput) where
         each_upkeep_result es next rise.1 (each_still c s es rise.0 there.1),
       )
 
--- after upkeep each unit has what upkeep leaves it, as the definition says by the units of the same faction in the same
--- region alone
+-- after upkeep each unit is there, with what its upkeep leaves it (`unit_after_upkeep`); for this only the units of its
+-- faction in its region count
 pub upkeep_is_of_peers : (w : WorldValue) (c : CampaignValue)
     → Every (HasUpkeepResult w.rules.maintenance (upkeep_inputs_of c) (upkeep c (upkeep_results w c))) c.units
 upkeep_is_of_peers w c =

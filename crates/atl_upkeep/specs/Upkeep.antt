@@ -91,6 +91,6 @@ upkeep_keeps w m before after =
     get after.units n ≡ Some (record u { holding = after_upkeep upkeep_result u.holding }))
     before.units
 
--- the specification of upkeep as a phase of the month, which books Upkeep of money and Starved of people
+-- the specification of upkeep: it books Upkeep of money and Starved of people, each by less than 10^14
 abbrev pub upkeep_spec : PhaseSpec
 upkeep_spec = books_money_and_people Upkeep Starved upkeep_meaning upkeep_keeps

@@ -1,6 +1,6 @@
--- General laws of truth values, numbers, keys of maps and lists, which other crates also use. `T b` says that b is true,
--- and `cond b x y` is x where b is true, else y. `eq_by_cmp nat_cmp` tests whether two keys are equal, and `nat_eq`
--- whether two numbers are. P, Q and S are conditions on an element of the list `rows`.
+-- General laws of truth values, numbers, keys of maps and lists, for other crates too. `T b` says that b is true, and
+-- `cond b x y` is x where b is true, else y. `eq_by_cmp nat_cmp` tests whether two keys are equal, and `nat_eq` whether
+-- two numbers are. P, Q and S are conditions on an element of the list `rows`.
 use Rattle.std.proofs.Common.{◌≡◌, ◌≢◌, ◌==◌, ◌∙◌, ◌+◌, ◌≤◌, ℕ, Bool, cond, true, false, T, List, [], ◌∷◌, nat_eq, refl, sym, arith}
 use Rattle.std.specs.List.{AllByRecursion}
 use Rattle.std.specs.Ordering.{nat_cmp, eq_by_cmp}
