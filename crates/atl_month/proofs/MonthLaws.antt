@@ -120,7 +120,7 @@ phases_result phases w c d m n begin events meaning begins events_are =
     ap (λ (es : List Event). (d, es)) events_are
     ∙ ap (λ (p : CampaignValue × MonthValue). (p.0, p.1.events)) (meaning ∙ ap (phases w c) begins)
 
--- the campaign d and the `events` that the phases make of c and a new month m are those of the definition (`month_of`)
+-- if the phases make campaign d and month n of c and a new month m, d and the events of n are those of `month_of`
 pub month_is : (w : WorldValue) (c d : CampaignValue) (m n : MonthValue) (readings : FinMap nat_cmp Reading) (words : List ℕ) (events : List Event)
     → (d, n) ≡ month_meaning w c m → m ≡ new_month readings words → events ≡ n.events
     → (d, events) ≡ month_of w c readings words

@@ -255,7 +255,8 @@ each_still c s [] above there = tt
 each_still c s (e ∷ es) above there =
     (other_unit c s e.0 (λ same. omega (arith, above.0, same)) ∙ there.0, each_still c s es above.1 there.1)
 
--- what upkeep takes from unit `p`, at maintenance `m`; of all units those of its faction in its region alone count
+-- what upkeep takes from unit `p` at maintenance `m`; of `all`, the units of the campaign, only those of its faction in
+-- its region count
 abbrev pub upkeep_result_one : ℕ → (all : List UpkeepInput) → UpkeepInput → UpkeepResult
 upkeep_result_one m all p = upkeep_result_among m (peers_of p.region p.faction all) p
 

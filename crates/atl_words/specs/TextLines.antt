@@ -22,6 +22,6 @@ without_return [] = []
 without_return (b ∷ []) = if b == carriage_return then [] else b ∷ []
 without_return (b ∷ c ∷ bs) = b ∷ without_return (c ∷ bs)
 
--- the lines of a text: its pieces between line feeds, without a carriage return at the end
+-- the lines of a text: its pieces between line feeds, each without one carriage return at its end, if it has any
 abbrev pub lines : List ℕ → List (List ℕ)
 lines text = map without_return (pieces text)
