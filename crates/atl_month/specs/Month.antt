@@ -73,8 +73,8 @@ month_meaning = then_also orders_meaning (meaning_of last_phases)
 abbrev pub month_keeps : Frame
 month_keeps = both_keep orders_meaning orders_keep (keeps_of last_phases)
 
--- The campaign after the phases of a month, and the events. `readings` are the mailings as read, by faction, `words` the
--- words of the dice. The month isn't counted and the mail isn't removed yet.
+-- The campaign after the phases of a month, and the events. `readings` are the mailings as read, by faction, and
+-- `words` the words of the dice. The month isn't counted and the mail isn't removed yet.
 unfoldable pub month_of : WorldValue → CampaignValue → FinMap nat_cmp Reading → List ℕ → CampaignValue × List Event
 month_of w c readings words = let after = month_meaning w c (new_month readings words) in (after.0, after.1.events)
 
