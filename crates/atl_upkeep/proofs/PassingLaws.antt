@@ -193,7 +193,7 @@ more_amount items i n j = elim (cases_eq j i) [
 
 -- ---- the part that a unit takes, and the rest
 
--- how much of an amount a unit that has `have` of a thing accepts
+-- how much of an amount a unit that has `have` of a thing accepts: as much as it has room for (`holding_limit`)
 abbrev pub accepted_of : (amount have : ℕ) → ℕ
 accepted_of amount have = min amount (holding_limit - have)
 

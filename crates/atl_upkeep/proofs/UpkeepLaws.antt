@@ -70,7 +70,7 @@ module _ (w : WorldValue) (left men : ℕ) (fewer : left ≤ men) where
       factors_swap : (most_days * men) * left ≡ men * (most_days * left)
       factors_swap = grind arith
 
--- the days of each skill that stay with `left` of a holding's men: the days times `left` / its men, rounded down
+-- the days of each skill that stay with `left` of a holding's men, rounded down (`going_of`); 0 days aren't listed
 abbrev pub days_left : ℕ → HoldingValue → FinMap nat_cmp ℕ
 days_left left h = amounts_for (going_of left h) (keys h.days)
 

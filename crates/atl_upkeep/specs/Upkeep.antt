@@ -26,7 +26,7 @@ use Rattle.atl_instant.specs.Transfer.{going_of}
 -- ---- the upkeep of one unit
 
 -- a holding with `left` of its men, and of each skill its days times `left` divided by the men before, rounded down;
--- unchanged where all men are left
+-- 0 days aren't listed; unchanged where all men are left
 abbrev pub with_men_left : ℕ → HoldingValue → HoldingValue
 with_men_left left h =
     if left == h.men then h
