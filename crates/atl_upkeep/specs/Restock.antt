@@ -31,7 +31,7 @@ after_market_restock region c (item, m) =
     with_booking (with_stock c region item (stock + more)) Stocked (Item item) (pos more)
 
 -- a campaign after the listed markets of a region, each by its item, got new goods: one after another, in the order of
--- the list; the season gives all markets of the region, sorted by item
+-- the list; in the season the list has all markets of the region, sorted by item
 abbrev pub after_restock : (region : ℕ) → CampaignValue → List (ℕ × Market) → CampaignValue
 after_restock region c markets = fold (after_market_restock region) c markets
 
