@@ -27,11 +27,11 @@ use std::alloc::{AllocError, Global};
 /// word of the dice for each region. The month isn't counted yet, and the mail isn't removed; once
 /// both are done, the campaign is good again. A unit whose faction sent no mailing is there
 /// afterwards with its faction and name, no less of any item, and all its men but those in its
-/// Starved event. It is removed if all its men starved, and only then. The factions and the reports stay.
-/// No amount of the books moves further than 10^14 - 1 for each phase that may move it. Each phase
-/// leaves alone what its specification says (`month_keeps`). No mark is lost, and all that changed
-/// is marked. AllocError without memory; the campaign is then given up. See docs/RULES.md, "Closing
-/// a month".
+/// Starved event. It is removed if all its men starved, and only then. The factions and the reports
+/// stay. No amount of the books moves further than 10^14 - 1 for each phase that may move it. Each
+/// phase leaves alone what its specification says (`month_keeps`). No mark is lost, and all that
+/// changed is marked. AllocError without memory; the campaign is then given up. See docs/RULES.md,
+/// "Closing a month".
 pub fn close_month(
     alloc: Global,
     world: &World,
