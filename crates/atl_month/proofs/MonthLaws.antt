@@ -173,8 +173,8 @@ phases_leave_unmailed phases keeps closes w c d m events begins is kept n u ther
     (closes.left w c m (subst (keeps w m c) state kept) n u there none))
 
 -- After a month each unit of a faction without a mailing has its faction and name, no less of any item, and all men who
--- didn't starve. It is removed where all its men starved (`UnmailedAreLeft`). For this the phases keep what
--- `month_keeps` says from campaign c, before the phases, to d, after them.
+-- didn't starve. It is removed where all its men starved (`UnmailedAreLeft`). For this d and `events` are what the
+-- month makes of c (`month_of`), and the phases keep what `month_keeps` says from c to d.
 pub unmailed_left : (w : WorldValue) (c d : CampaignValue) (ms : List Mailing) (words : List ℕ) (events : List Event)
     → (d, events) ≡ month_of w c (by_faction (map reading_of ms)) words
     → month_keeps w (new_month (by_faction (map reading_of ms)) words) c d → UnmailedAreLeft ms events c d

@@ -260,7 +260,7 @@ each_still c s (e ∷ es) above there =
 abbrev pub upkeep_result_one : ℕ → (all : List UpkeepInput) → UpkeepInput → UpkeepResult
 upkeep_result_one m all p = upkeep_result_among m (peers_of p.region p.faction all) p
 
--- what upkeep takes, at this maintenance for each man, from each of some units, where `all` are those of the campaign
+-- what upkeep takes, at maintenance `m`, from each of the units `es`, where `all` are those of the campaign
 abbrev pub upkeep_result_each : ℕ → (all : List UpkeepInput) → List (ℕ × Unit) → List UpkeepResult
 upkeep_result_each m all es = map (upkeep_result_one m all) (map upkeep_input_of es)
 

@@ -1,4 +1,4 @@
--- The header of a mailing: the first line whose first word is `#ATLANTIS`, in any case (`begins`). It names a faction.
+-- A header is a line whose first word is `#ATLANTIS`, in any case (`begins`). The first one names a mailing's faction.
 -- See docs/RULES.md, "Reading a mailing".
 use Rattle.std.specs.Prelude.{◌≡◌, ◌≤◌, ℕ, ◌+◌, List, [], ◌∷◌, length, codes, Option, Some, None, Result, Ok, Err, if◌then◌else◌}
 use Rattle.atl_words.specs.Limits.{last_faction, most_bytes}
