@@ -36,7 +36,7 @@ use Rattle.atl_upkeep.specs.Sweep.{sweep_spec}
 use Rattle.atl_upkeep.specs.Upkeep.{upkeep_spec}
 
 -- What a month carries as its first phase begins: the mailings as they were read, each under its faction's number, the
--- words of the dice, no event, and no alias, which is a mailing's number for a unit that FORM makes.
+-- words of the dice, no event, and no alias. An alias is a mailing's number for a unit that FORM makes.
 abbrev pub new_month : FinMap nat_cmp Reading → List ℕ → MonthValue
 new_month readings words = record { readings = readings; aliases = empty; words = words; events = [] }
 

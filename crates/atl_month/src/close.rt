@@ -73,9 +73,9 @@ pub fn months_have_no_order()
     ensures { MailOrderDoesNotCount }
 {}
 
-/// The law that each order that counts has exactly one event in the month, of its faction, for its
-/// unit, on its line and of its verb, if the mailings can be read with the world. Does nothing. See
-/// docs/RULES.md, "Orders of a month".
+/// The law that each order that counts has exactly one event in the month, if the mailings can be
+/// read with the world. The event is of its faction, for its unit, on its line and of its verb.
+/// Does nothing. See docs/RULES.md, "Orders of a month".
 pub fn each_order_has_one_event()
     ensures { EachOrderHasOneEvent }
 {}
@@ -88,7 +88,7 @@ pub fn phases_move_little()
 {}
 
 /// The law that books of which no amount passes 9*10^18 in size have room for one phase that moves
-/// each amount by less than 10^14, as each phase of a month does. The law says nothing of two
+/// each amount by less than 10^14. Each phase of a month does so. The law says nothing of two
 /// phases, which together may move an amount further. Does nothing.
 pub fn one_phase_has_room()
     ensures { OnePhaseHasRoom }

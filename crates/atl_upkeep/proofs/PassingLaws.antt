@@ -89,8 +89,8 @@ passes-refl w n c steady = record {
   back = λ m v is. (v, is, kept-refl v);
 }
 
--- passing on twice in turn, amounts o from campaign a to b and amounts p from b to c, is passing on both amounts,
--- within the sum of both bounds on the books
+-- Passing on twice in turn, amounts o from campaign a to b and amounts p from b to c, is passing on both amounts. The
+-- bound on the books is the sum of both bounds (i and j).
 pub passes-trans : {o p : Thing → ℕ} {i j : BookBound} (w : WorldValue) (n : ℕ) (a b c : CampaignValue)
     → PassesOn w n o i a b → PassesOn w n p j b c
     → PassesOn w n (λ s. o s + p s) (both_move i j) a c

@@ -240,8 +240,8 @@ pub room_for_market : (x : ℕ × Market) (xs : List (ℕ × Market)) (c : Campa
 room_for_market x xs c room =
     room_less (moves_only most_amount Stocked (Item x.0)) (stocking_bound (x ∷ xs)) c (λ e t. omega arith) room
 
--- If the books of a steady campaign have room for the new goods of some markets, they still have it for all but the
--- first once this one got its own. The first is a market of region `n`, which the world has (`IsMarketOf`).
+-- If the books of a steady campaign have room for the new goods of some markets, they still have it for the others
+-- once the first got its own. The first is a market of region `n`, which the world has (`IsMarketOf`).
 pub room_for_later_markets : (w : WorldValue) (n : ℕ) → HasValue w.regions n
     → (x : ℕ × Market) (xs : List (ℕ × Market)) (c : CampaignValue) → IsMarketOf w n x.0 x.1 → IsSteady w c
     → HaveRoom (stocking_bound (x ∷ xs)) c → HaveRoom (stocking_bound xs) (after_market_restock n c x)
@@ -249,8 +249,8 @@ room_for_later_markets w n there x xs c of steady room =
     room_for_second (moves_only most_amount Stocked (Item x.0)) (stocking_bound xs) w c (after_market_restock n c x)
     (one_leaves_well w n there c x of steady) room
 
--- Setting the stock of item `i` in region `n` to `stock` + `more`, which makes d of c, and booking `more` of it as
--- Stocked, which makes e of d, both with their marks, marks all that changes (`MarksChanges`).
+-- Setting the stock of item `i` in region `n` to `stock` + `more` makes d of c. Booking `more` of it as Stocked makes e
+-- of d. Both, with their marks, mark all that changes (`MarksChanges`).
 pub market_marks : (stock more n i : ℕ) (c d e : MarkedCampaign) → d.value ≡ with_stock c.value n i (stock + more)
     → MarksStock c n i (stock + more) d.marks
     → e.value ≡ with_booking d.value Stocked (Item i) (pos more) → e.marks ≡ mark_amount d Stocked (Item i)

@@ -262,8 +262,8 @@ pub season_goes_on : (w : WorldValue) (c d all : CampaignValue) (regions rest : 
     → fold (season_at w) d (zip (map (λ e. e.0) rest) tail) ≡ all
 season_goes_on w c d all regions rest words tail n word plan listed given is whole = rw is (rw (listed, given) at whole)
 
--- where the books of the steady campaign c have room for the seasons of `regions`, those of d, which is c after the
--- season of the first one, have room for those of the others (`rest`)
+-- If the books of the steady campaign c have room for the seasons of `regions`, those of d have room for the seasons of
+-- the others (`rest`). Campaign d is c after the season of the first region.
 pub room_for_later_seasons : (w : WorldValue) → IsWorld w
     → (c d : CampaignValue) (regions rest : List (ℕ × RegionPlan)) (n word : ℕ) (plan : RegionPlan)
     → regions ≡ (n, plan) ∷ rest → d ≡ season_at w c (n, word) → IsSteady w c

@@ -231,8 +231,8 @@ pub upkeep_at_is : (c : CampaignValue) (s : UpkeepResult) (u : Unit) → get c.u
 unfolding upkeep_at
 upkeep_at_is c s u is = ap (upkeep_in c s) is
 
--- the upkeep of a unit that can pay keeps the campaign steady and its books balanced, and moves only Upkeep of money
--- and Starved of people, each by at most 999,999,999
+-- The upkeep of a unit that can pay keeps the campaign steady and its books balanced. It moves only Upkeep of money and
+-- Starved of people, each by at most 999,999,999.
 pub upkeep_at_leaves_well : (w : WorldValue) (c : CampaignValue) (s : UpkeepResult) → CanPayUpkeep w c s
     → LeavesWell IsSteady (takes_up_to most_amount) w c (upkeep_at c s)
 upkeep_at_leaves_well w c s can =

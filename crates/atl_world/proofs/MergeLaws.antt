@@ -129,8 +129,8 @@ pub merged_alone : (xs : List ℕ) → merged xs [] ≡ xs
 merged_alone [] = refl
 merged_alone (x ∷ xs) = refl
 
--- If r is the first number of the list xs (None without one), and the list `us` is the rest of it, this also holds
--- once both lists are merged with the empty list ys.
+-- Suppose r is the first number of the list xs (None without one), and the list `us` is the rest of it. This then also
+-- holds of both lists merged with the empty list ys.
 pub first_alone : (xs us ys : List ℕ) (r : Option ℕ) → length ys ≡ 0 → YieldsFirstBy (λ n. n) (λ s. s) xs r us
     → YieldsFirstBy (λ n. n) (λ s. s) (merged xs ys) r (merged us ys)
 first_alone xs us (y ∷ ys) r e h = absurd (omega (arith, e))
