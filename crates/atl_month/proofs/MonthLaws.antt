@@ -120,7 +120,7 @@ phases_result phases w c d m n begin events meaning begins events_are =
     ap (λ (es : List Event). (d, es)) events_are
     ∙ ap (λ (p : CampaignValue × MonthValue). (p.0, p.1.events)) (meaning ∙ ap (phases w c) begins)
 
--- the campaign d and the `events` that the phases make of c and a new month m are those of the definition (`month_of`)
+-- if the phases make campaign d and month n of c and a new month m, d and the events of n are those of `month_of`
 pub month_is : (w : WorldValue) (c d : CampaignValue) (m n : MonthValue) (readings : FinMap nat_cmp Reading) (words : List ℕ) (events : List Event)
     → (d, n) ≡ month_meaning w c m → m ≡ new_month readings words → events ≡ n.events
     → (d, events) ≡ month_of w c readings words
@@ -173,8 +173,8 @@ phases_leave_unmailed phases keeps closes w c d m events begins is kept n u ther
     (closes.left w c m (subst (keeps w m c) state kept) n u there none))
 
 -- After a month each unit of a faction without a mailing has its faction and name, no less of any item, and all men who
--- didn't starve. It is removed where all its men starved (`UnmailedAreLeft`). For this the phases keep what
--- `month_keeps` says from campaign c, before the phases, to d, after them.
+-- didn't starve. It is removed where all its men starved (`UnmailedAreLeft`). For this d and `events` are what the
+-- month makes of c (`month_of`), and the phases keep what `month_keeps` says from c to d.
 pub unmailed_left : (w : WorldValue) (c d : CampaignValue) (ms : List Mailing) (words : List ℕ) (events : List Event)
     → (d, events) ≡ month_of w c (by_faction (map reading_of ms)) words
     → month_keeps w (new_month (by_faction (map reading_of ms)) words) c d → UnmailedAreLeft ms events c d

@@ -1,7 +1,7 @@
 -- Laws of each phase of a month: which entries of the books it moves, and what it leaves to units of a faction without
 -- a mailing, if it keeps what its specification says. A phase's own entries are those that its specification lists
 -- (`moved`). Such a unit also keeps its faction and name, and the starved are those whom the phase's Starved events
--- report. All phases but the sweep keep the mailings.
+-- report. All phases but the sweep keep the mailings, and none takes back a Starved event.
 use Rattle.std.proofs.Common.{◌≤◌, [], ◌∷◌, arith}
 use Rattle.std.specs.Prelude.{if◌then◌else◌}
 use Rattle.std.proofs.lemmas.Bool.Decides.{nat_tests}

@@ -1,6 +1,7 @@
 -- Laws of what upkeep, season and sweep leave to units of a faction that sent no mailing, if the phase keeps what its
 -- specification says. Such a unit keeps its faction and name, has no less of any item, and has its men less those who
--- starve in upkeep, as its event reports. The sweep removes it if it has no men. The other two keep the mailings.
+-- starve in upkeep, as its event reports. The sweep removes it if it has no men. The other two keep the mailings, and
+-- none takes back a Starved event.
 use Rattle.std.proofs.Common.{◌≡◌, ◌≢◌, ◌==◌, ◌+◌, ◌-◌, ◌≤◌, ◌<◌, ℕ, Bool, true, false, not, cond, List, [], ◌∷◌, map, filter, sum_by, Some, refl, sym, ap, subst, ◌∙◌, inl, inr, arith}
 use Rattle.std.specs.Prelude.{if◌then◌else◌}
 use Rattle.std.specs.Ordering.{nat_cmp}

@@ -36,7 +36,7 @@ use Rattle.atl_upkeep.specs.Sweep.{sweep_spec}
 use Rattle.atl_upkeep.specs.Upkeep.{upkeep_spec}
 
 -- What a month carries as its first phase begins: the mailings as they were read, each under its faction's number, the
--- words of the dice, no event, and no alias, which is a mailing's number for a unit that FORM makes.
+-- words of the dice, no event, and no alias. An alias is a mailing's number for a unit that FORM makes.
 abbrev pub new_month : FinMap nat_cmp Reading → List ℕ → MonthValue
 new_month readings words = record { readings = readings; aliases = empty; words = words; events = [] }
 
@@ -73,7 +73,8 @@ month_meaning = then_also orders_meaning (meaning_of last_phases)
 abbrev pub month_keeps : Frame
 month_keeps = both_keep orders_meaning orders_keep (keeps_of last_phases)
 
--- the campaign after the phases of a month, and its events; the month isn't counted and the mail not removed yet
+-- The campaign after the phases of a month, and the events. `readings` are the mailings as read, by faction, and
+-- `words` the words of the dice. The month isn't counted and the mail isn't removed yet.
 unfoldable pub month_of : WorldValue → CampaignValue → FinMap nat_cmp Reading → List ℕ → CampaignValue × List Event
 month_of w c readings words = let after = month_meaning w c (new_month readings words) in (after.0, after.1.events)
 

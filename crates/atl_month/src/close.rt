@@ -26,12 +26,12 @@ use std::alloc::{AllocError, Global};
 /// campaign and the events. Takes mailings read with this world, at most one of a faction, and one
 /// word of the dice for each region. The month isn't counted yet, and the mail isn't removed; once
 /// both are done, the campaign is good again. A unit whose faction sent no mailing is there
-/// afterwards with its name, no less of any item, and all its men but those in its Starved event.
-/// Such a unit is removed if all its men starved, and only then. The factions and the reports stay.
-/// No amount of the books moves further than the phases may move it; founding and joining stay.
-/// Each phase leaves alone what its specification says (`month_keeps`). No mark is lost, and all
-/// that changed is marked. AllocError without memory; the campaign is then given up. See
-/// docs/RULES.md, "Closing a month".
+/// afterwards with its faction and name, no less of any item, and all its men but those in its
+/// Starved event. It is removed if all its men starved, and only then. The factions and the reports
+/// stay. No amount of the books moves further than 10^14 - 1 for each phase that may move it. Each
+/// phase leaves alone what its specification says (`month_keeps`). No mark is lost, and all that
+/// changed is marked. AllocError without memory; the campaign is then given up. See docs/RULES.md,
+/// "Closing a month".
 pub fn close_month(
     alloc: Global,
     world: &World,
@@ -73,9 +73,9 @@ pub fn months_have_no_order()
     ensures { MailOrderDoesNotCount }
 {}
 
-/// The law that each order that counts has exactly one event in the month, of its faction, for its
-/// unit, on its line and of its verb, if the mailings can be read with the world. Does nothing. See
-/// docs/RULES.md, "Orders of a month".
+/// The law that each order that counts has exactly one event in the month, if the mailings can be
+/// read with the world. The event is of its faction, for its unit, on its line and of its verb.
+/// Does nothing. See docs/RULES.md, "Orders of a month".
 pub fn each_order_has_one_event()
     ensures { EachOrderHasOneEvent }
 {}
@@ -88,7 +88,7 @@ pub fn phases_move_little()
 {}
 
 /// The law that books of which no amount passes 9*10^18 in size have room for one phase that moves
-/// each amount by less than 10^14, as each phase of a month does. The law says nothing of two
+/// each amount by less than 10^14. Each phase of a month does so. The law says nothing of two
 /// phases, which together may move an amount further. Does nothing.
 pub fn one_phase_has_room()
     ensures { OnePhaseHasRoom }

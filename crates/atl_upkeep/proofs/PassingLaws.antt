@@ -89,8 +89,8 @@ passes-refl w n c steady = record {
   back = λ m v is. (v, is, kept-refl v);
 }
 
--- passing on twice in turn, amounts o from campaign a to b and amounts p from b to c, is passing on both amounts,
--- within the sum of both bounds on the books
+-- Passing on twice in turn, amounts o from campaign a to b and amounts p from b to c, is passing on both amounts. The
+-- bound on the books is the sum of both bounds (i and j).
 pub passes-trans : {o p : Thing → ℕ} {i j : BookBound} (w : WorldValue) (n : ℕ) (a b c : CampaignValue)
     → PassesOn w n o i a b → PassesOn w n p j b c
     → PassesOn w n (λ s. o s + p s) (both_move i j) a c
@@ -193,7 +193,7 @@ more_amount items i n j = elim (cases_eq j i) [
 
 -- ---- the part that a unit takes, and the rest
 
--- how much of an amount a unit that has `have` of a thing accepts
+-- how much of an amount a unit that has `have` of a thing accepts: as much as it has room for (`holding_limit`)
 abbrev pub accepted_of : (amount have : ℕ) → ℕ
 accepted_of amount have = min amount (holding_limit - have)
 
@@ -300,8 +300,8 @@ module _ (w : WorldValue) (c : CampaignValue) (n k : ℕ) (apart : n ≢ k) (ste
 
 -- ---- all that a unit has
 
--- Items of the world that go in turn to unit `k`, up to the unit's room, with the rest booked as lost, are passed on
--- from unit `n` (`PassesOn`). This supposes that the campaign is steady, and that `n` isn't `k`.
+-- Items of the world (`es`) go in turn to unit `k`, if it is there, up to its room, with the rest booked as lost. In a
+-- steady campaign they are then passed on from unit `n` (`PassesOn`), if `n` isn't `k`.
 pub pass_items : (w : WorldValue) (c : CampaignValue) (n k : ℕ) → n ≢ k → (es : List (ℕ × ℕ))
     → EachEntry (λ i a. i < length w.items) es → IsSteady w c
     → PassesOn w n (held_in_items es) (items_bound es) c (fold (after_passing_item k) c es)

@@ -154,14 +154,14 @@ module _ (m : ReceiverMap) (n : ℕ) (u : Unit) (es : List (ℕ × Unit)) (low :
           → or_if_zero (unwrap_or (cond ((k && (x == 0)) && (p && q)) (Some n) o) 0) next ≡ or_if_zero (unwrap_or o 0) (cond (p && (q && k)) n next)
       goes_on p q k o x next same = grind (arith, nat_tests, low)
 
--- before any unit is noted the map is empty, and a faction's receiver in a region is the first that receives of all
--- units
+-- Before any unit is noted the map is empty. Then the receiver in it, else the first that receives of all units, is the
+-- campaign's receiver, for each faction and region.
 pub nothing_noted : (c : CampaignValue) (m : ReceiverMap) → m ≡ empty → (r f : ℕ)
     → or_if_zero (receiver_in m r f) (first_or_zero (numbers_among (receives r f) (entries c.units))) ≡ receiver c r f
 nothing_noted c m none r f = rw (none, get-empty nat_cmp r, get-empty nat_cmp f) refl
 
 -- Once all units are noted, and none is to come, the map has the receivers of the campaign. For this the one in the
--- map, else the first that receives among the units to come, is the campaign's receiver.
+-- map, else the first that receives of the units to come, is the campaign's, for each faction and region.
 pub all_noted : (c : CampaignValue) (m : ReceiverMap)
     → ((r f : ℕ) → or_if_zero (receiver_in m r f) (first_or_zero (numbers_among (receives r f) [])) ≡ receiver c r f)
     → AreReceivers c m

@@ -48,7 +48,7 @@ use Rattle.atl_upkeep.specs.Restock.{after_market_restock, after_restock, market
 
 -- ---- how far new goods move the books
 
--- the bound on what the new goods of some markets book: up to 999,999,999 under Stocked of each market's item
+-- the bound on what the new goods of some markets book: for each market 999,999,999 under Stocked of its item
 abbrev pub stocking_bound : List (ℕ × Market) → BookBound
 stocking_bound [] e t = 0
 stocking_bound (x ∷ xs) e t = moves_only most_amount Stocked (Item x.0) e t + stocking_bound xs e t
@@ -228,7 +228,7 @@ restocked_keeps n c (x ∷ xs) = restocked_keeps n (after_market_restock n c x) 
 pub restock_small : (m : Market) (stock : ℕ) → m.limit ≤ most_amount → restock m stock ≤ most_amount
 restock_small m stock l = omega (arith, l)
 
--- if the books may move Stocked of an item by 999,999,999, this amount of the books has room for that
+-- if the books have room to move Stocked of an item alone by 999,999,999, this one amount of theirs has room for that
 pub room_alone : (c : CampaignValue) (i : ℕ) → HaveRoom (moves_only most_amount Stocked (Item i)) c
     → HasRoom most_amount (amount_in c.books Stocked (Item i))
 room_alone c i room =
@@ -240,8 +240,8 @@ pub room_for_market : (x : ℕ × Market) (xs : List (ℕ × Market)) (c : Campa
 room_for_market x xs c room =
     room_less (moves_only most_amount Stocked (Item x.0)) (stocking_bound (x ∷ xs)) c (λ e t. omega arith) room
 
--- In a steady campaign, if books have room for the new goods of some markets of a region of the world, they have room
--- for those of the others after the first one.
+-- If the books of a steady campaign have room for the new goods of some markets, they still have it for the others
+-- once the first got its own. The first is a market of region `n`, which the world has (`IsMarketOf`).
 pub room_for_later_markets : (w : WorldValue) (n : ℕ) → HasValue w.regions n
     → (x : ℕ × Market) (xs : List (ℕ × Market)) (c : CampaignValue) → IsMarketOf w n x.0 x.1 → IsSteady w c
     → HaveRoom (stocking_bound (x ∷ xs)) c → HaveRoom (stocking_bound xs) (after_market_restock n c x)
@@ -249,8 +249,8 @@ room_for_later_markets w n there x xs c of steady room =
     room_for_second (moves_only most_amount Stocked (Item x.0)) (stocking_bound xs) w c (after_market_restock n c x)
     (one_leaves_well w n there c x of steady) room
 
--- setting a market's stock, which makes d of c, and booking the new goods, which makes e of d, both with their marks,
--- marks all that changes (`MarksChanges`)
+-- Setting the stock of item `i` in region `n` to `stock` + `more` makes d of c. Booking `more` of it as Stocked makes e
+-- of d. Both, with their marks, mark all that changes (`MarksChanges`).
 pub market_marks : (stock more n i : ℕ) (c d e : MarkedCampaign) → d.value ≡ with_stock c.value n i (stock + more)
     → MarksStock c n i (stock + more) d.marks
     → e.value ≡ with_booking d.value Stocked (Item i) (pos more) → e.marks ≡ mark_amount d Stocked (Item i)

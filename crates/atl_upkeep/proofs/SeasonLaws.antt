@@ -144,8 +144,8 @@ births_first c room =
 
 -- ---- marks
 
--- setting the peasants and the money of a region and booking both, each with its mark, from campaign c over d, e and f
--- to g, marks all that changes (`MarksChanges`)
+-- Setting the peasants and the money of region `n`, and booking `born` people as Births and `earned` money as Income,
+-- each with its mark, marks all that changes (`MarksChanges`). The steps go from campaign c over d, e and f to g.
 pub growth_marks : (c d e f g : MarkedCampaign) (n peasants money born earned : ℕ)
     → d.value ≡ with_peasants c.value n peasants → d.marks ≡ mark_peasants c n peasants
     → e.value ≡ with_region_money d.value n money → e.marks ≡ mark_region_money d n money
@@ -171,8 +171,8 @@ limits_fit w n t world is = terrain_in w (get w.regions n) t world is
 
 -- ---- the season of a region, and of all
 
--- the births and the income of a region keep a steady campaign steady and its books balanced, and move each of the two
--- amounts by at most 999,999,999
+-- The births and the income of a region keep a steady campaign steady and its books balanced. They move Births of
+-- people and Income of money alone, each by at most 999,999,999.
 pub region_grows_well : (w : WorldValue) → IsWorld w → (c : CampaignValue) (n word : ℕ) (t : Terrain) (r : Region)
     → terrain_of w n ≡ Some t → get c.regions n ≡ Some r → IsSteady w c
     → LeavesWell IsSteady (grows_by most_amount) w c (with_growth c n r.peasants r.money (births w.rules.growth t.peasant_limit word r.peasants) (income w.rules.income t.money_limit (r.peasants + births w.rules.growth t.peasant_limit word r.peasants) r.money))
@@ -184,8 +184,8 @@ region_grows_well w world c n word t r here is steady =
     (births_fit w.rules.growth t.peasant_limit word r.peasants peasant_limit within.peasants)
     (income_fits w.rules.income t.money_limit (r.peasants + born) r.money money_limit within.money) steady
 
--- the season of one region keeps a steady campaign steady and its books balanced, and moves only births, income, and
--- Stocked of each item, each by at most 999,999,999
+-- The season of region `x.0` with its word `x.1` keeps a steady campaign steady and its books balanced. It moves only
+-- Births of people, Income of money, and Stocked of each item, each by at most 999,999,999.
 pub season_at_leaves_well : (w : WorldValue) → IsWorld w → (c : CampaignValue) (x : ℕ × ℕ) → IsSteady w c
     → LeavesWell IsSteady (season_moves most_amount) w c (season_at w c x)
 unfolding season_at
@@ -210,7 +210,7 @@ season_at_leaves_well w world c (n, word) steady = by_terrain (terrain_of w n) r
     by_terrain None is = same
     by_terrain (Some t) is = by_region t is (get c.regions n) refl
 
--- the seasons of at most as many regions as there may be move only births, income and Stocked, each by less than 10^14
+-- the seasons of `k` regions, at most 10,000, move only Births, Income and Stocked, each by less than 10^14
 pub season_little : (k : ℕ) → k ≤ most_regions → (e : BooksEntry) (t : Thing)
     → moved_times k (season_moves most_amount) e t ≤ season_moves most_moved e t
 season_little k few e t = grind (arith, few)
@@ -262,8 +262,8 @@ pub season_goes_on : (w : WorldValue) (c d all : CampaignValue) (regions rest : 
     → fold (season_at w) d (zip (map (λ e. e.0) rest) tail) ≡ all
 season_goes_on w c d all regions rest words tail n word plan listed given is whole = rw is (rw (listed, given) at whole)
 
--- where the books of the steady campaign c have room for the seasons of `regions`, those of d, which is c after the
--- season of the first one, have room for those of the others (`rest`)
+-- If the books of the steady campaign c have room for the seasons of `regions`, those of d have room for the seasons of
+-- the others (`rest`). Campaign d is c after the season of the first region.
 pub room_for_later_seasons : (w : WorldValue) → IsWorld w
     → (c d : CampaignValue) (regions rest : List (ℕ × RegionPlan)) (n word : ℕ) (plan : RegionPlan)
     → regions ≡ (n, plan) ∷ rest → d ≡ season_at w c (n, word) → IsSteady w c

@@ -204,7 +204,7 @@ units_stay (n ∷ ns) c = units_stay ns (after_sweeping_faction c n) ∙ gone_at
 
 -- ---- the phase
 
--- the sweeps of at most 100,000 units together lose less than 10^14 of money and of each item, and book nothing else
+-- the sweeps of `k` units, at most 100,000, lose less than 10^14 of money and of each item, and book nothing else
 pub loses_little : (k : ℕ) → k ≤ most_units → (e : BooksEntry) (t : Thing)
     → moved_times k (loses_by most_amount) e t ≤ loses_by most_moved e t
 loses_little k few e t = grind arith

@@ -172,8 +172,8 @@ module _ (w : WorldValue) (c : CampaignValue) (n : ℕ) (u : Unit) (is : get c.u
 
 -- ---- an item that is passed on
 
--- if unit `to` is there, adding what it accepts of an item to what it has, and booking the rest as lost, is passing the
--- item on (`after_passing_item`)
+-- if unit `to` is there as `v`, adding what it accepts of an item to what it has, and booking the rest as lost, is
+-- passing the item on (`after_passing_item`)
 pub passed_item_is : (c : CampaignValue) (to item amount : ℕ) (v : Unit) → get c.units to ≡ Some v
     → with_lost (with_item c to item (amount_of v.holding.items item + accepted_of amount (amount_of v.holding.items item))) (Item item) (amount - accepted_of amount (amount_of v.holding.items item))
     ≡ after_passing_item to c (item, amount)

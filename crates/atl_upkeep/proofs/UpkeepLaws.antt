@@ -70,7 +70,7 @@ module _ (w : WorldValue) (left men : ℕ) (fewer : left ≤ men) where
       factors_swap : (most_days * men) * left ≡ men * (most_days * left)
       factors_swap = grind arith
 
--- the days of each skill that stay with `left` of a holding's men
+-- the days of each skill that stay with `left` of a holding's men, rounded down (`going_of`); 0 days aren't listed
 abbrev pub days_left : ℕ → HoldingValue → FinMap nat_cmp ℕ
 days_left left h = amounts_for (going_of left h) (keys h.days)
 
@@ -231,8 +231,8 @@ pub upkeep_at_is : (c : CampaignValue) (s : UpkeepResult) (u : Unit) → get c.u
 unfolding upkeep_at
 upkeep_at_is c s u is = ap (upkeep_in c s) is
 
--- the upkeep of a unit that can pay keeps the campaign steady and its books balanced, and moves only Upkeep of money
--- and Starved of people, each by at most 999,999,999
+-- The upkeep of a unit that can pay keeps the campaign steady and its books balanced. It moves only Upkeep of money and
+-- Starved of people, each by at most 999,999,999.
 pub upkeep_at_leaves_well : (w : WorldValue) (c : CampaignValue) (s : UpkeepResult) → CanPayUpkeep w c s
     → LeavesWell IsSteady (takes_up_to most_amount) w c (upkeep_at c s)
 upkeep_at_leaves_well w c s can =
@@ -248,18 +248,19 @@ other_unit c s n apart = by_unit (get c.units s.unit)
     by_unit None = refl
     by_unit (Some u) = get-insert_other c.units s.unit n (record u { holding = after_upkeep s u.holding }) apart
 
--- if units are there as listed, and all have greater numbers than another one, they are still so after its upkeep
+-- if units are there as listed, and all have greater numbers than the unit of `s`, they are still so after its upkeep
 pub each_still : (c : CampaignValue) (s : UpkeepResult) (es : List (ℕ × Unit)) → AllByRecursion (λ e. s.unit < e.0) es
     → EachEntry (λ n u. get c.units n ≡ Some u) es → EachEntry (λ n u. get (upkeep_at c s).units n ≡ Some u) es
 each_still c s [] above there = tt
 each_still c s (e ∷ es) above there =
     (other_unit c s e.0 (λ same. omega (arith, above.0, same)) ∙ there.0, each_still c s es above.1 there.1)
 
--- what upkeep takes from one unit, where `all` are the units of the campaign, at this maintenance for each man
+-- what upkeep takes from unit `p` at maintenance `m`; of `all`, the units of the campaign, only those of its faction in
+-- its region count
 abbrev pub upkeep_result_one : ℕ → (all : List UpkeepInput) → UpkeepInput → UpkeepResult
 upkeep_result_one m all p = upkeep_result_among m (peers_of p.region p.faction all) p
 
--- what upkeep takes, at this maintenance for each man, from each of some units, where `all` are those of the campaign
+-- what upkeep takes, at maintenance `m`, from each of the units `es`, where `all` are those of the campaign
 abbrev pub upkeep_result_each : ℕ → (all : List UpkeepInput) → List (ℕ × Unit) → List UpkeepResult
 upkeep_result_each m all es = map (upkeep_result_one m all) (map upkeep_input_of es)
 
@@ -441,8 +442,8 @@ module _ (m : ℕ) (all : List UpkeepInput) where
         each_upkeep_result es next rise.1 (each_still c s es rise.0 there.1),
       )
 
--- after upkeep each unit has what upkeep leaves it, as the definition says by the units of the same faction in the same
--- region alone
+-- after upkeep each unit is there, with what its upkeep leaves it (`unit_after_upkeep`); for this only the units of its
+-- faction in its region count
 pub upkeep_is_of_peers : (w : WorldValue) (c : CampaignValue)
     → Every (HasUpkeepResult w.rules.maintenance (upkeep_inputs_of c) (upkeep c (upkeep_results w c))) c.units
 upkeep_is_of_peers w c =

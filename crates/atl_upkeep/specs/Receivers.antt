@@ -15,12 +15,12 @@ ReceiverMap = FinMap nat_cmp (FinMap nat_cmp ℕ)
 abbrev pub receiver_in : ReceiverMap → (region faction : ℕ) → ℕ
 receiver_in m region faction = unwrap_or (get (group_of m region) faction) 0
 
--- a map in which a faction's receiving unit in a region has this number
+-- map `m` with this number as that of the receiving unit of a faction in a region; the rest of `m` stays
 abbrev pub with_receiver : ReceiverMap → (region faction number : ℕ) → ReceiverMap
 with_receiver m region faction number = insert m region (insert (group_of m region) faction number)
 
 -- a map after a unit was noted, by its number: as its faction's receiver in its region, if it has men and the map has
--- none there yet
+-- none there yet; else unchanged
 abbrev pub with_receiver_of : ReceiverMap → ℕ → Unit → ReceiverMap
 with_receiver_of m n u =
     if nat_lt 0 u.holding.men && (receiver_in m u.region u.faction == 0) then with_receiver m u.region u.faction n

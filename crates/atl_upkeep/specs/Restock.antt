@@ -18,12 +18,12 @@ use Rattle.atl_phase.specs.Meaning.{BookBound}
 abbrev pub markets_of : WorldValue → (region : ℕ) → FinMap nat_cmp Market
 markets_of w region = option_map_or (λ p. p.markets) (get w.regions region) empty
 
--- how many new goods a market with this stock gets: its `restock`, at most what is missing to its limit
+-- how many new goods a market with this stock gets: its `restock`, at most what the stock is short of its limit
 abbrev pub restock : Market → (stock : ℕ) → ℕ
 restock m stock = min m.restock (m.limit - stock)
 
--- a campaign after a market of a region, given with its item, got its `restock`, which is booked as stocked; where the
--- region isn't there, it is only booked
+-- a campaign after a market of a region, given with its item, got its new goods (`restock`), which are booked as
+-- Stocked; where the campaign has no such region, they are only booked
 unfoldable pub after_market_restock : (region : ℕ) → CampaignValue → ℕ × Market → CampaignValue
 after_market_restock region c (item, m) =
     let stock = stock_of c region item in
@@ -31,7 +31,7 @@ after_market_restock region c (item, m) =
     with_booking (with_stock c region item (stock + more)) Stocked (Item item) (pos more)
 
 -- a campaign after the listed markets of a region, each by its item, got new goods: one after another, in the order of
--- the list; the season gives all markets of the region, sorted by item
+-- the list; in the season the list has all markets of the region, sorted by item
 abbrev pub after_restock : (region : ℕ) → CampaignValue → List (ℕ × Market) → CampaignValue
 after_restock region c markets = fold (after_market_restock region) c markets
 

@@ -16,16 +16,17 @@ use Rattle.atl_phase.specs.PhaseSpecs.{PhaseSpec}
 use Rattle.atl_phase.specs.There.{at_region}
 use Rattle.atl_upkeep.specs.Restock.{after_restock, markets_of, stocks_by}
 
--- How many peasants are born: `word % (growth + 1)` percent of them, rounded down, at most what is missing to `limit`.
--- `word` is the word of the dice.
+-- How many peasants are born: `word % (growth + 1)` percent of `peasants`, rounded down, at most what these are short
+-- of `limit`. `growth` is the most percent, `word` the word of the dice, and `%` gives the remainder.
 abbrev pub births : (growth limit word peasants : ℕ) → ℕ
 births growth limit word peasants = min (peasants * (word % (growth + 1)) / per_hundred) (limit - peasants)
 
--- How much money a region gets: `per_peasant` for each of its peasants, at most what is missing to `limit`.
+-- How much money a region gets: `per_peasant` for each of its peasants, at most what its `money` is short of `limit`.
 abbrev pub income : (per_peasant limit peasants money : ℕ) → ℕ
 income per_peasant limit peasants money = min (peasants * per_peasant) (limit - money)
 
--- a campaign in which region `n`, which had these peasants and this money, got births and income, which are booked
+-- A campaign in which region `n`, which had `peasants` and `money`, got `born` peasants and `earned` money. Both are
+-- booked, even where the campaign has no region `n`.
 abbrev pub with_growth : CampaignValue → ℕ → (peasants money born earned : ℕ) → CampaignValue
 with_growth c n peasants money born earned =
     let grown = with_region_money (with_peasants c n (peasants + born)) n (money + earned) in
@@ -66,7 +67,7 @@ season_moves most = both_move (grows_by most) (stocks_by most)
 abbrev pub season_keeps : Frame
 season_keeps w m before after = after.units ≡ before.units
 
--- the specification of the season as a phase of the month, which books Income, Births and Stocked and changes no unit
+-- the specification of the season: it books Income, Births and Stocked, each by less than 10^14, and changes no unit
 abbrev pub season_spec : PhaseSpec
 season_spec = record {
   meaning = season_meaning;

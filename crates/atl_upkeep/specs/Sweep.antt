@@ -84,13 +84,13 @@ abbrev pub is_empty : List ℕ → Bool
 is_empty [] = true
 is_empty (n ∷ ns) = false
 
--- a campaign in which faction `n` is gone if it has no unit; else the campaign as it was
+-- a campaign after faction `n` was set to gone; unchanged where it isn't there or has a unit
 abbrev pub after_sweeping_faction : CampaignValue → ℕ → CampaignValue
 after_sweeping_faction c n = if is_empty (numbers_of_faction n c.units) then with_gone c n else c
 
 -- ---- the phase
 
--- a campaign after the sweep: first of the units without men, then of the factions that aren't gone yet
+-- a campaign after the sweep: of the units without men, then of the factions that aren't gone yet, all by number
 abbrev pub sweep : CampaignValue → CampaignValue
 sweep c =
     let swept = fold after_sweeping_unit c (menless_units c) in
@@ -129,7 +129,7 @@ pub record IsSweptUnit (after : CampaignValue) (number : ℕ) (u : Unit) : Type 
 abbrev pub sweep_keeps : Frame
 sweep_keeps w m before after = Every (IsSweptUnit after) before.units
 
--- the specification of the sweep as a phase of the month, which books Lost of money and items
+-- the specification of the sweep: it books Lost of money and of each item, each by less than 10^14
 abbrev pub sweep_spec : PhaseSpec
 sweep_spec = record {
   meaning = sweep_meaning;

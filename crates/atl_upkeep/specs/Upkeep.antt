@@ -26,7 +26,7 @@ use Rattle.atl_instant.specs.Transfer.{going_of}
 -- ---- the upkeep of one unit
 
 -- a holding with `left` of its men, and of each skill its days times `left` divided by the men before, rounded down;
--- unchanged where all men are left
+-- 0 days aren't listed; unchanged where all men are left
 abbrev pub with_men_left : ℕ → HoldingValue → HoldingValue
 with_men_left left h =
     if left == h.men then h
@@ -91,6 +91,6 @@ upkeep_keeps w m before after =
     get after.units n ≡ Some (record u { holding = after_upkeep upkeep_result u.holding }))
     before.units
 
--- the specification of upkeep as a phase of the month, which books Upkeep of money and Starved of people
+-- the specification of upkeep: it books Upkeep of money and Starved of people, each by less than 10^14
 abbrev pub upkeep_spec : PhaseSpec
 upkeep_spec = books_money_and_people Upkeep Starved upkeep_meaning upkeep_keeps

@@ -13,8 +13,8 @@ use Rattle.atl_shares.specs.declared.upkeep_sharing.UpkeepResult.{UpkeepResult}
 use Rattle.atl_shares.specs.UpkeepSharing.{CanSpare}
 use Rattle.atl_upkeep.specs.Upkeep.{after_upkeep, takes_up_to}
 
--- the unit is there and can spare what upkeep takes (`s`), the campaign is steady, and the books have room for
--- 999,999,999 of money and of people
+-- The unit is there and can spare what upkeep takes (`s`), and the campaign is steady. Its books have room for Upkeep
+-- of money and Starved of people, each of 999,999,999.
 pub record CanPayUpkeep (w : WorldValue) (c : CampaignValue) (s : UpkeepResult) : Type 0 where
   pub unit : Unit
   pub there : get c.units s.unit ≡ Some unit

@@ -1,6 +1,6 @@
 -- How the first line of a text is split off, and at which index of the text it ends. Lines are the pieces between line
 -- feeds, each without a carriage return at its end. `left` is what is left of the text, `front` a part with which a
--- text begins, and `rest` what follows a line feed, if there is one.
+-- text begins, and `rest` what follows a line feed, if there is one. `end` is the index of the first line feed.
 use Rattle.atl_words.proofs.WordLaws.{ends_further}
 use Rattle.std.proofs.Common.{Option, Some, None, IfSome, ◌≡◌, ◌≢◌, ℕ, zero, suc, ◌+◌, ◌-◌, ◌<◌, ◌≤◌, Bool, true, false, not, cond, List, [], ◌∷◌, ◌++◌, length, get_or, take, drop, map, refl, sym, ap, ◌∙◌, arith}
 use Rattle.std.specs.List.{position, position_or_len}
@@ -23,7 +23,7 @@ feed_step false b bs m h rest =
     let two : 1 + m + 1 ≡ suc (m + 1) = omega arith in
     ap (with_front b) (rest (omega arith)) ∙ sym (rw (two, one) refl)
 
--- a text with a line feed is split into the bytes before the feed and the pieces of the text after it
+-- the pieces of a text with a line feed are the bytes before the first one, and then the pieces of the text after it
 pub pieces-feed : (text : List ℕ) → position_or_len is_feed text < length text
     → pieces text ≡ take (position_or_len is_feed text) text ∷ pieces (drop (position_or_len is_feed text + 1) text)
 unfolding pieces

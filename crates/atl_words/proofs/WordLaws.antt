@@ -1,6 +1,7 @@
 -- Laws of the words of a line, by its first byte, and of the index of a word in the text. b is the first byte of a line
 -- and bs are those after it. `bytes` are those of a word, `to_end` is how many bytes the line has from the word's first
--- byte on, and `end` is the index of the text at which the line ends.
+-- byte on, and `end` is the index of the text at which the line ends. i is an index of a line, and `rest` what a line
+-- ends with.
 use Rattle.std.proofs.Common.{◌≡◌, ℕ, zero, suc, ◌+◌, ◌*◌, ◌-◌, ◌<◌, ◌≤◌, Bool, ◌||◌, not, true, false, cond, eqb, List, [], ◌∷◌, ◌++◌, length, get_or, take, drop, min, Some, None, nat_lt, refl, sym, ap, ◌∙◌, arith}
 use Rattle.std.specs.List.{slice_range, position, position_or_len, before_first}
 use Rattle.std.specs.Option.{unwrap_or}
@@ -90,7 +91,7 @@ pub words-bare_line : (line : List ℕ) → 0 < length line → ends_word (get_o
 words-bare_line [] p h = absurd (omega arith)
 words-bare_line (b ∷ bs) p h = words-bare b bs h
 
--- what follows the quote that bs begin with; where bs are empty there is none (`closing` is 0), and nothing follows
+-- what follows the first byte of bs, a quote; where bs are empty there is none (`closing` is 0), and nothing follows
 pub after_closing : (bs : List ℕ) (closing : ℕ) → closing ≡ min (length bs) 1
     → take (length bs - closing) (drop closing bs) ≡ drop 1 bs
 after_closing bs closing e = take_rest bs closing ∙ ap (λ n. drop n bs) (e ∙ min_comm (length bs) 1) ∙ drop_min 1 bs

@@ -1,4 +1,4 @@
--- The header of a mailing, which names its faction. `#ATLANTIS` counts in any case (`begins`).
+-- A header is a line whose first word is `#ATLANTIS`, in any case (`begins`). The first one names a mailing's faction.
 -- See docs/RULES.md, "Reading a mailing".
 use Rattle.std.specs.Prelude.{◌≡◌, ◌≤◌, ℕ, ◌+◌, List, [], ◌∷◌, length, codes, Option, Some, None, Result, Ok, Err, if◌then◌else◌}
 use Rattle.atl_words.specs.Limits.{last_faction, most_bytes}
@@ -19,7 +19,7 @@ pub record HeaderValue : Type 0 where
   pub next : ℕ
   pub rest : List (List ℕ)
 
--- what the header at line n gives: its faction and the lines after it; BadHeader if it names no faction
+-- what the header at line n gives: the faction that it names, and `rest`, the lines after it; without one, BadHeader
 abbrev pub header_line : ℕ → List (List ℕ) → Option ℕ → Result HeaderValue MailFault
 header_line n rest None = Err BadHeader
 header_line n rest (Some faction) = Ok (record { faction = faction; next = n + 1; rest = rest })
@@ -32,7 +32,7 @@ header_from n (line ∷ rest) =
     if begins (codes "#ATLANTIS") (words line) then header_line n rest (faction_of (words line))
     else header_from (n + 1) rest
 
--- a text is a mailing of a faction: it isn't too long, and its header names the faction
+-- a text is a mailing of a faction: it has at most 65,536 bytes, and its first header names the faction
 pub record IsMailingOf (faction : ℕ) (text : List ℕ) : Type 0 where
   pub short : length text ≤ most_bytes
   pub header :

@@ -11,7 +11,7 @@ abbrev pub with_front : ℕ → List (List ℕ) → List (List ℕ)
 with_front b [] = (b ∷ []) ∷ []
 with_front b (line ∷ lines) = (b ∷ line) ∷ lines
 
--- the pieces of a text between its line feeds, which are its lines before carriage returns are cut off
+-- the pieces of a text between its line feeds, at least one: its lines before carriage returns are cut off
 unfoldable pub pieces : List ℕ → List (List ℕ)
 pieces [] = [] ∷ []
 pieces (b ∷ bs) = if is_feed b then [] ∷ pieces bs else with_front b (pieces bs)
@@ -22,6 +22,6 @@ without_return [] = []
 without_return (b ∷ []) = if b == carriage_return then [] else b ∷ []
 without_return (b ∷ c ∷ bs) = b ∷ without_return (c ∷ bs)
 
--- the lines of a text: its pieces between line feeds, without a carriage return at the end
+-- the lines of a text: its pieces between line feeds, each without one carriage return at its end, if it has any
 abbrev pub lines : List ℕ → List (List ℕ)
 lines text = map without_return (pieces text)

@@ -25,8 +25,9 @@ is_quote b = b == quote
 abbrev pub ends_word : ℕ → Bool
 ends_word b = is_blank b || is_quote b || b == semicolon
 
--- The words of a part of a line after its first `skip` bytes, which belong to the word before. A word in quotes ends at
--- the next quote, or with the line.
+-- The words of a part of a line after its first `skip` bytes, which belong to the word before. Blanks separate words,
+-- and a `;` outside quotes ends the reading. A word in quotes ends at the next quote. A word without quotes ends before
+-- the first blank, quote or `;` (`ends_word`). Without such an end a word ends with the line.
 unfoldable pub words_after : ℕ → List ℕ → List WordText
 words_after skip [] = []
 words_after (suc skip) (b ∷ bs) = words_after skip bs
@@ -38,7 +39,7 @@ words_after zero (b ∷ bs) =
     else record { bytes = before_first ends_word (b ∷ bs); quoted = false }
     ∷ words_after (position_or_len ends_word (b ∷ bs) - 1) bs
 
--- the words of a line, up to a comment
+-- the words of a line, up to a comment, which begins at a `;` outside quotes
 abbrev pub words : List ℕ → List WordText
 words line = words_after zero line
 

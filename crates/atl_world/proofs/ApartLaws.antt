@@ -1,6 +1,6 @@
 -- Laws of sets with no number in common. `Marks` keeps the marked numbers in two such sets: m, which has room for all
--- marks (`AreMarks`), and l, the set of the recent marks. s and t are sets of numbers, and n is one number. `room` and
--- `recent` are how many numbers the first and the second of the two sets can hold.
+-- marks (`AreMarks`), and l, the recent marks, those that were made last. s and t are sets of numbers, n is one number,
+-- and xs and ys are lists. `room` and `recent` are how many numbers the first and the second of the two sets can hold.
 use Rattle.std.proofs.Common.{◌≡◌, ℕ, ◌+◌, ◌<◌, ◌≤◌, Bool, true, false, cond, not, ◌&&◌, ◌||◌, List, [], ◌∷◌, length, get_or, refl, sym, ap, ◌∙◌, inl, inr, arith}
 use Rattle.std.proofs.lemmas.Bool.{cases_order, false≢true, and_parts, false_from_ne_true, or_parts}
 use Rattle.std.specs.List.{list_any}
@@ -129,6 +129,7 @@ pub none_recent : (s : NumberSet) (room recent : ℕ) → set.len s ≤ room
 none_recent s room recent h =
     record { apart = apart_empty s; fits = let none : set.len {R = nat_cmp} set.empty ≡ 0 = set.len-empty nat_cmp in omega (arith, none, h) }
 
+-- two empty sets are the marks of a `Marks` (`AreMarks`), whatever their room
 pub no_marks : (room recent : ℕ)
     → AreMarks (record { numbers = set.empty; room = room }) (record { numbers = set.empty; room = recent })
 no_marks room recent =
@@ -172,7 +173,7 @@ pub mark_taken : (m l : RoomySet) (n : ℕ) → AreMarks m l
 mark_taken m l n h =
     record { apart = apart_remove m.numbers l.numbers n h.apart; fits = omega (arith, len-less m.numbers n, len-less l.numbers n, h.fits) }
 
--- If the lists xs and ys have no number in common, and the number at i of xs is at most that at j of ys, it is less.
+-- If xs and ys have no number in common, and the number at index i of xs is at most that at index j of ys, it is less.
 pub less_apart : (xs ys : List ℕ) (i j : ℕ) → AreApart (set.from_list xs) (set.from_list ys) → i < length xs
     → j < length ys → get_or xs i 0 ≤ get_or ys j 0 → get_or xs i 0 < get_or ys j 0
 less_apart xs ys i j h l m le =

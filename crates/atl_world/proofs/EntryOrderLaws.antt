@@ -1,5 +1,5 @@
 -- Laws of the sorted entries of a map: each number is less than the next one. An entry is a number with its value; e is
--- the first entry and `es` are those after it, and n is at most the number of e.
+-- the first entry and `es` are those after it, n is at most the number of e, and k and q are numbers.
 use Rattle.std.proofs.Common.{◌≡◌, ℕ, ◌+◌, ◌≤◌, ◌<◌, true, List, [], ◌∷◌, refl, sym, arith}
 use Rattle.std.specs.declared.cmp.Ordering.TheVariants.{Less, Equal, Greater}
 use Rattle.std.specs.Ordering.{nat_cmp, is_lt}

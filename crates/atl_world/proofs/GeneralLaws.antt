@@ -1,5 +1,6 @@
--- General laws of truth values, numbers, keys of maps and lists, which other crates use, too. `eq_by_cmp nat_cmp` tests
--- whether two keys are equal. P, Q and S are conditions on an element of the list `rows`.
+-- General laws of truth values, numbers, keys of maps and lists, for other crates too. `T b` says that b is true, and
+-- `cond b x y` is x where b is true, else y. `eq_by_cmp nat_cmp` tests whether two keys are equal, and `nat_eq` whether
+-- two numbers are. P, Q and S are conditions on an element of the list `rows`.
 use Rattle.std.proofs.Common.{◌≡◌, ◌≢◌, ◌==◌, ◌∙◌, ◌+◌, ◌≤◌, ℕ, Bool, cond, true, false, T, List, [], ◌∷◌, nat_eq, refl, sym, arith}
 use Rattle.std.specs.List.{AllByRecursion}
 use Rattle.std.specs.Ordering.{nat_cmp, eq_by_cmp}
@@ -39,11 +40,13 @@ chosen_is_at_most_next false n = omega arith
 pub insert_adds_at_most_one : {V : Type 0} (m : FinMap nat_cmp V) (k : ℕ) (v : V) → len (insert m k v) ≤ len m + 1
 insert_adds_at_most_one m k v = rw (len-insert nat_cmp_total m k v) (chosen_is_at_most_next (contains_key m k) (len m))
 
+-- S holds of each row, if P and Q do, and S follows from both
 pub each_follows_from_two : {R : Type 0} (P Q S : R → Type 0) → ((r : R) → P r → Q r → S r) → (rows : List R)
     → AllByRecursion P rows → AllByRecursion Q rows → AllByRecursion S rows
 each_follows_from_two P Q S f [] p q = tt
 each_follows_from_two P Q S f (r ∷ rows) p q = (f r p.0 q.0, each_follows_from_two P Q S f rows p.1 q.1)
 
+-- Q holds of each row, if P does, and Q follows from P
 pub each_follows : {R : Type 0} (P Q : R → Type 0) → ((r : R) → P r → Q r) → (rows : List R) → AllByRecursion P rows
     → AllByRecursion Q rows
 each_follows P Q f [] p = tt

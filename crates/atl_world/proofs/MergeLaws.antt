@@ -1,6 +1,7 @@
 -- Laws of two sorted lists merged into one: its numbers, its order, and the merge in place. The merge in place fills
 -- the first list, which has room for all, from the end of the list on, beginning with the largest number. xs and ys are
--- the two lists.
+-- the two lists. During the merge in place the first `own` numbers of xs and `left` of ys are left to merge, and `now`
+-- is the list in place, which has the merged numbers from index `own` + `left` on. n is put in at `index`.
 use Rattle.std.proofs.Common.{◌≡◌, ℕ, suc, ◌+◌, ◌-◌, ◌<◌, ◌≤◌, Bool, true, false, ◌||◌, List, [], ◌∷◌, ◌++◌, length, get_or, take, drop, set, Option, refl, sym, ap, subst, ◌∙◌, inl, inr, arith}
 use Rattle.std.specs.Prelude.{IsTrue}
 use Rattle.std.proofs.lemmas.Bool.{cases_order, false≢true}
@@ -128,8 +129,8 @@ pub merged_alone : (xs : List ℕ) → merged xs [] ≡ xs
 merged_alone [] = refl
 merged_alone (x ∷ xs) = refl
 
--- Merged with the empty list ys, two lists keep this: r is the first number of the list xs (None without one), and the
--- list `us` is the rest of it.
+-- Suppose r is the first number of the list xs (None without one), and the list `us` is the rest of it. This then also
+-- holds of both lists merged with the empty list ys.
 pub first_alone : (xs us ys : List ℕ) (r : Option ℕ) → length ys ≡ 0 → YieldsFirstBy (λ n. n) (λ s. s) xs r us
     → YieldsFirstBy (λ n. n) (λ s. s) (merged xs ys) r (merged us ys)
 first_alone xs us (y ∷ ys) r e h = absurd (omega (arith, e))
@@ -183,7 +184,7 @@ all_under [] n h = tt
 all_under (x ∷ xs) n h =
     (sym (nat_cmp_is x n Less (h 0 (omega arith))), all_under xs n (λ k l. h (suc k) (omega (arith, l))))
 
--- the first `count` numbers of a sorted list are all less than n, if the last of these is
+-- the first `count` numbers of a sorted list are all less than n, if the last of these is, or there is none
 pub under_last : (xs : List ℕ) (count n : ℕ) → IsRising xs → count ≤ length xs
     → (0 < count → get_or xs (count - 1) 0 < n) → Under (take count xs) n
 under_last xs count n s l h = all_under (take count xs) n (λ k m.
@@ -196,9 +197,8 @@ put_there : (xs : List ℕ) (index from n : ℕ) → index ≡ from → index < 
     → drop from (set xs index n) ≡ n ∷ drop (from + 1) xs
 put_there xs index from n e l = subst (λ p. drop p (set xs index n) ≡ n ∷ drop (p + 1) xs) e (drop-set xs index n l)
 
--- To put the first list's largest number left, n, in place keeps this list: the numbers left of both lists, merged,
--- followed by those in place. For this n must be above all left of the second list. Of xs and ys the first `own` and
--- `left` numbers are left, and of xs one less (`less`) after this; `now` is the list in place, and n is put at `index`.
+-- To put n, the last number left of xs, in place keeps this list: the numbers left, merged, followed by those in place
+-- already. `index` is the last one before these, n is above all numbers left of ys, and then `less` of xs are left.
 pub own_put : (xs ys now : List ℕ) (own less left index n : ℕ) → own ≡ less + 1 → index ≡ less + left
     → index < length now → less < length xs → n ≡ get_or xs less 0 → Under (take left ys) n
     → merged (take less xs) (take left ys) ++ drop (less + left) (set now index n) ≡ merged (take own xs) (take left ys) ++ drop (own + left) now
@@ -210,8 +210,8 @@ own_put xs ys now own less left index n o p within short is under =
     ∙ sym (append_assoc (merged (take less xs) (take left ys)) (n ∷ []) (drop (own + left) now))
     ∙ ap (λ zs. zs ++ drop (own + left) now) (sym first)
 
--- To put the second list's largest number left, n, in place keeps the same list. For this n must be above all left of
--- the first list. `less` is how many are left of the second list after this; the other names are those of `own_put`.
+-- To put n, the last number left of ys, in place keeps this list: the numbers left, merged, followed by those in place
+-- already. `index` is the last one before these, n is above all numbers left of xs, and then `less` of ys are left.
 pub other_put : (xs ys now : List ℕ) (own left less index n : ℕ) → left ≡ less + 1 → index ≡ own + less
     → index < length now → less < length ys → n ≡ get_or ys less 0 → Under (take own xs) n
     → merged (take own xs) (take less ys) ++ drop (own + less) (set now index n) ≡ merged (take own xs) (take left ys) ++ drop (own + left) now
@@ -223,8 +223,8 @@ other_put xs ys now own left less index n o p within short is under =
     ∙ sym (append_assoc (merged (take own xs) (take less ys)) (n ∷ []) (drop (own + left) now))
     ∙ ap (λ zs. zs ++ drop (own + left) now) (sym first)
 
--- A merge in place is complete once no number of the second list is left: the list in place, `now`, is `all`, the list
--- that `own_put` keeps. For this the first `own` numbers of `now` must be those of xs.
+-- A merge in place is complete once no number of ys is left: `now` is then `all`, the numbers left, merged, followed by
+-- those in place already. For this the first `own` numbers of `now` are those of xs.
 pub all_put : (xs ys now all : List ℕ) (own left : ℕ) → left ≡ 0 → take own now ≡ take own xs
     → merged (take own xs) (take left ys) ++ drop (own + left) now ≡ all → now ≡ all
 all_put xs ys now all own left none kept h =

@@ -7,6 +7,7 @@ use Rattle.atl_world.specs.Sums.{map_values}
 use Rattle.atl_world.specs.declared.world.RegionPlan.{RegionPlan}
 use Rattle.atl_world.proofs.MappedLaws.{entries-mapped}
 
+-- entries, each a region with its number, with the markets left out
 abbrev pub entries_without_markets : List (ℕ × RegionPlan) → List (ℕ × RegionPlan)
 entries_without_markets es = map (λ e. (e.0, without_market e.1)) es
 

@@ -134,7 +134,7 @@ pub union-next : (s : set.FinSet nat_cmp) (k : ℕ) (ks : List ℕ)
     → set.union (set.insert s k) (set.from_list ks) ≡ set.union s (set.from_list (k ∷ ks))
 union-next s k ks = insert-union s (set.from_list ks) k ∙ sym (union-insert s (set.from_list ks) k)
 
--- if t has the numbers of s, and k, and those of `ks`, it has at least as many numbers as s with k
+-- if t has the numbers of s, k and those of `ks`, and no other, it has at least as many numbers as s with k
 pub len-next : (s t : set.FinSet nat_cmp) (k : ℕ) (ks : List ℕ) → set.union s (set.from_list (k ∷ ks)) ≡ t
     → set.len (set.insert s k) ≤ set.len t
 len-next s t k ks h =

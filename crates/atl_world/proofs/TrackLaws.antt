@@ -183,6 +183,7 @@ module _ {V : Type 0} where
       → without_new_value (with_value c n x) n (set.contains c.marks n) ≡ c
   taken_out-undone c n x fresh = insert_is_undone c n x (set.contains c.marks n) fresh refl
 
+-- the empty map, with nothing marked, needs no room for marks
 pub Room-empty : (V : Type 0) → set.len (valued_or_marked (empty {X = V} {R = nat_cmp}) set.empty) ≤ 0
 Room-empty V =
     Room-all (empty {X = V}) set.empty 0

@@ -11,7 +11,7 @@ Every P m = (n : ℕ) → (v : _) → get m n ≡ Some v → P n v
 abbrev pub HasValue : {V : Type 0} → FinMap nat_cmp V → ℕ → Type 0
 HasValue {V} m n = (v : V) × (get m n ≡ Some v)
 
--- a condition on a number and its value holds of each entry of a list
+-- a condition on a number and its value holds of each entry of a list, which is such a pair
 abbrev pub EachEntry : {V : Type 0} → (ℕ → V → Type 0) → List (ℕ × V) → Type 0
 EachEntry P [] = ⊤
 EachEntry P (e ∷ es) = P e.0 e.1 × EachEntry P es

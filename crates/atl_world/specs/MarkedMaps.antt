@@ -11,7 +11,7 @@ pub record MarkedMapValue (V : Type 0) : Type 0 where
   -- the marked numbers: those whose values changed
   pub marks : set.FinSet nat_cmp
 
--- for proofs alone: a map with marks encoded as the pair of its values and its marks
+-- for proofs alone: a map with marks encoded as the pair of its values and its marks, where v encodes one value
 abbrev pub marked_map_code : {V : Type 0} → Coded V → Coded (MarkedMapValue V)
 marked_map_code {V} v =
     code_by (FinMap nat_cmp V × set.FinSet nat_cmp)

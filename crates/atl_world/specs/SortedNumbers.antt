@@ -19,7 +19,8 @@ pub record BelongsAt (xs : List ℕ) (n : ℕ) (i : ℕ) : Type 0 where
 pub record AreApart (s t : set.FinSet nat_cmp) : Type 0 where
   pub apart : (n : ℕ) → set.contains s n ≡ true → set.contains t n ≡ false
 
--- the marks of `Marks` are kept in two sets: no number is in both, and the first set has room for the numbers of both
+-- the marks of `Marks` are kept in two sets, `recent` those made last: no number is in both, and the first has room for
+-- the numbers of both
 pub record AreMarks (numbers recent : RoomySet) : Type 0 where
   pub apart : AreApart numbers.numbers recent.numbers
   pub fits : set.len numbers.numbers + set.len recent.numbers ≤ numbers.room

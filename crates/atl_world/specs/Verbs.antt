@@ -8,7 +8,7 @@ use Rattle.atl_world.specs.declared.verb.Slot.TheVariants.{MonthLong, Selling, B
 use Rattle.atl_world.specs.declared.verb.Verb.{Verb}
 use Rattle.atl_world.specs.declared.verb.Verb.TheVariants.{Form, Name, Guard, Enter, Leave, Promote, Give, Pay, Transfer, Sell, Buy, Tax, Recruit, Quit, Move, Sail, Build, Teach, Study, Produce, Work}
 
--- a row of the order table: the keyword, the shape of the words after it, and the slot of the order, if it takes one
+-- a row of the order table: the keyword, the shape of the words after it (what they name), and the order's slot, if any
 pub record Row : Type 0 where
   pub keyword : List ℕ
   pub shape : Shape

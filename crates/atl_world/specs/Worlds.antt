@@ -106,8 +106,8 @@ pub record IsTerrain (items : ℕ) (t : Terrain) : Type 0 where
   pub outputs : length t.output ≡ items
   pub output : All (λ amount. amount ≤ most_amount) t.output
 
--- The name of the item x, whose number is i, keeps the rule of names, and its numbers are in their ranges. Its skill is
--- one of `skills` skills, and its raw item is another one of `items` items.
+-- The name of the item x, whose number is i, keeps the rule of names, and its numbers are in their ranges. Its skill,
+-- if any, is one of `skills` skills, and its raw item, if any, is another one of `items` items.
 pub record IsItem (items skills i : ℕ) (x : Item) : Type 0 where
   pub name : name_ok x.name ≡ true
   pub weight : x.weight ≤ most_weight
@@ -162,11 +162,12 @@ pub record IsRegionPlan (terrains items number : ℕ) (p : RegionPlan) : Type 0 
   pub money : p.money ≤ most_amount
   pub markets : (i : ℕ) (m : Market) → get p.markets i ≡ Some m → IsMarket items i m
 
--- `neighbour`, if there is one, is a region whose neighbour on the opposite side (`opposite`) is the region `number`
+-- `neighbour`, if any, is one of `regions`, whose neighbour on the opposite side (`opposite`) is the region `number`
 abbrev pub LeadsBack : FinMap nat_cmp RegionPlan → (RegionPlan → Option ℕ) → ℕ → Option ℕ → Type 0
 LeadsBack regions opposite number neighbour = IfSome neighbour (λ m. option_and_then opposite (get regions m) ≡ Some number)
 
--- the neighbours of the region `number` in the north, south, east and west (n, s, e, w) have it on their opposite sides
+-- The neighbours of the region `number` in the north, south, east and west (n, s, e, w), if any, are of `regions`. Each
+-- has it on its opposite side.
 pub record HasMutualNeighbours (regions : FinMap nat_cmp RegionPlan) (number : ℕ) (n s e w : Option ℕ) : Type 0 where
   pub north : LeadsBack regions (λ q. q.south) number n
   pub south : LeadsBack regions (λ q. q.north) number s

@@ -12,7 +12,7 @@ pub enum Format {
 }
 
 impl Format {
-    /// The number of the format in the campaign's row: 1 or 2. See docs/FORMATS.md, "Tables".
+    /// The number of the format in the campaign row: 1 for `First`, 2 for `Second`.
     pub fn number(self) -> u8
         ensures { result ≡ format_number self }
     {

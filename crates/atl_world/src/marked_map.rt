@@ -120,9 +120,9 @@ impl<V: Drop> MarkedMap<V> {
         self.values.remove(number);
     }
 
-    /// Undoes an insert: takes out the value, if it is there, and clears the number's mark. If
-    /// `was_marked`, which says that the number was marked before the insert, it does what `remove`
-    /// does. It takes no memory.
+    /// Undoes an insert: takes out the value, if there is one, and clears the number's mark. If
+    /// `was_marked`, that is, the number was marked before the insert, it clears no mark, and marks
+    /// the number if it had a value. It takes no memory.
     pub fn take_out(&mut self, number: u32, was_marked: bool)
         ensures { self.new ≡ without_new_value self.old number was_marked }
     {
