@@ -95,7 +95,7 @@ sail w n direction c u =
     let to = neighbour w u.region direction in
     fault_or c (sail_fault w c n u (get c.structures u.structure) to) (after_sailing c u.structure (unwrap_or to 0), Done 0)
 
--- the step of the phase of SAIL: the effect of an order, by its unit and its operands
+-- the step of the phase of SAIL: the effect of an order, by its unit and operands; None where they name no direction
 abbrev pub sail_step : OrderMeaning
 sail_step w aliases t = by_direction (sail w t.unit) t.order_value.operands
 
@@ -142,6 +142,6 @@ sail_keeps w m before after =
     AreAtMostMoved before after
     × others_unaffected (SailsWith w before) IsUnchanged is_sailing w m before after
 
--- the specification of the phase of SAIL, which moves no amount of the books
+-- the specification of the phase of SAIL, which carries its orders out one by one, and books nothing
 abbrev pub sail_spec : PhaseSpec
 sail_spec = spec_without_books (meaning_by_orders sail_step is_sailing) sail_keeps

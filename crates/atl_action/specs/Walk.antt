@@ -59,13 +59,13 @@ abbrev pub by_direction : (Direction → OrderEffect) → OperandsValue → Opti
 by_direction effect (operands.Direction direction) = Some (effect direction)
 by_direction effect other = None
 
--- the step of the phase of MOVE: the effect of an order, by its unit and its operands
+-- the step of the phase of MOVE: the effect of an order, by its unit and operands; None where they name no direction
 abbrev pub walk_step : OrderMeaning
 walk_step w aliases t = by_direction (walk w t.unit) t.order_value.operands
 
 -- ---- the phase
 
--- The specification of the phase of MOVE, which books nothing. A unit for which no MOVE of its own faction counts keeps
--- its faction, place, name and guard flag, and loses nothing (`IsNoWorse`).
+-- The specification of the phase of MOVE, which carries its orders out one by one, and books nothing. A unit for which
+-- no MOVE of its own faction counts keeps its faction, place, name and guard flag, and loses nothing (`IsNoWorse`).
 abbrev pub walk_spec : PhaseSpec
 walk_spec = goes_by_orders walk_step is_walking IsOwnOrder IsNoWorse

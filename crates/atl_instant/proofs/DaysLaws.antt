@@ -125,8 +125,8 @@ setting_gives_map days had said f some some_said others each =
     (subst (Every (λ s d. 1 ≤ d)) (sym set) (no_zeros_after_setting f (entries days) had some)) some_said
     (λ s. ap (λ (m : FinMap nat_cmp ℕ). amount_of m s) set ∙ set_each days f s had (others s) ∙ each s)
 
--- Setting each skill of `days` to f of its days gives the same map in `days` itself as in the empty map. For this f
--- gives 0 for 0 days, and `days` lists no skill with 0 days.
+-- Setting each skill of `days` to what f makes of the skill and its days gives the same map in `days` itself as in the
+-- empty map. For this f gives 0 for 0 days, and `days` lists no skill with 0 days.
 pub set_again : (days : FinMap nat_cmp ℕ) (f : ℕ → ℕ → ℕ) → ((s : ℕ) → f s 0 ≡ 0) → Every (λ s d. 1 ≤ d) days
     → with_days days (map (λ e. (e.0, f e.0 e.1)) (entries days)) ≡ fold (λ (m : FinMap nat_cmp ℕ) (e : ℕ × ℕ). with_amount_of m e.0 (f e.0 e.1)) empty (entries days)
 set_again days f none some =

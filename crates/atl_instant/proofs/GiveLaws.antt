@@ -186,7 +186,7 @@ give_keeps w a c t x own = by_operands t.order_value.operands
         gift_kept w c t.unit (unit_of a t.faction to) Money n x own.there (λ fit. tt)
     by_operands other = tt
 
--- each order of GIVE or PAY that can be read with the world keeps an early campaign early, its month and its balance,
--- and books nothing; a unit is no worse off unless its own faction wrote the order for it (`IsOrderly`)
+-- In an early campaign an order of GIVE or PAY for a unit of its writer's faction leaves every other unit no worse off.
+-- If it can be read with the world, the campaign stays early, in its month and in balance, and nothing is booked.
 pub give_orderly : IsOrderly give_step IsEarly nothing_remaining moves_nothing IsOwnOrder IsNoWorse
 give_orderly = orderly_by give_keeps (λ w a t n f own other. absurd (other own))

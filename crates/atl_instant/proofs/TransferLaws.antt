@@ -60,7 +60,7 @@ can_send n u v is =
 
 -- ---- days
 
--- if each skill that a map lists has at most `most` days, so has every skill; one that isn't listed has 0
+-- if each skill that a map lists has from 1 to `most` days, every skill has at most `most`; one that isn't listed has 0
 pub days_within : (all : FinMap nat_cmp ℕ) (most skill : ℕ) → Every (λ s days. (1 ≤ days) × (days ≤ most)) all
     → amount_of all skill ≤ most
 days_within all most skill each = by_option (get all skill) refl
@@ -69,7 +69,7 @@ days_within all most skill each = by_option (get all skill) refl
     by_option None e = omega arith
     by_option (Some days) e = (each skill days e).1
 
--- if men have at most 450 days each, the days that go with n of them are at most 450 for each of the n
+-- if `men` men have together at most 450 days for each, so have the n of them who go, with the days that go with them
 pub going_most : (n men days : ℕ) → days ≤ most_days * men → days_going n men days ≤ most_days * n
 going_most n men days most =
     div-le_of_le-mul men (subst (λ x. days * n ≤ x) (turned most_days men n) (mul-le-mul_right n most))
@@ -100,7 +100,8 @@ rest_within k s n d some most = elim (cases_lt (k * s) d) [
     scaled : (y : ℕ) → y ≤ k * n → y * (s + n) ≤ (k * s + y) * n
     scaled y few = rw (turned k s n y, mul-add y s n) (sum (y * s) ((k * n) * s) (y * n) (mul-le-mul_right s few))
 
--- if men have at most 450 days each, the days that stay when n of them go are at most 450 for each who stays
+-- if `men` men have together at least one day and at most 450 for each, the days that stay as n of them go are at most
+-- 450 for each who stays
 pub staying_days_within : (n men days : ℕ) → n ≤ men → 1 ≤ days → days ≤ most_days * men
     → days - days_going n men days ≤ most_days * (men - n)
 staying_days_within n men days fewer some most =
@@ -236,7 +237,7 @@ transfer_keeps w a c t x own = by_operands t.order_value.operands
     by_operands (operands.UnitAndNumber to n) = transfer_kept w c t.unit (unit_of a t.faction to) n x own.there
     by_operands other = tt
 
--- each order of TRANSFER that can be read with the world keeps an early campaign early, its month and its balance, and
--- books nothing; a unit is no worse off unless its own faction wrote the order for it (`IsOrderly`)
+-- In an early campaign a TRANSFER for a unit of its writer's faction leaves every other unit no worse off. If it can be
+-- read with the world, the campaign stays early, in its month and in balance, and nothing is booked.
 pub transfer_orderly : IsOrderly transfer_step IsEarly nothing_remaining moves_nothing IsOwnOrder IsNoWorse
 transfer_orderly = orderly_by transfer_keeps (λ w a t n f own other. absurd (other own))

@@ -37,7 +37,7 @@ is_unit_limit c = nat_le most_units (len c.units) || nat_lt last_unit c.next_uni
 abbrev pub form_fault : CampaignValue → (f n : ℕ) → Option EventFault
 form_fault c f n = first_fault ((not (is_of_faction f (get c.units n)), NotYours) ∷ (is_unit_limit c, UnitLimit) ∷ [])
 
--- a new unit, named `Unit` and its number, without men, money, items, days or guard flag
+-- a new unit, named `Unit` and its number, inside the structure (0: none), without men, money, goods or guard flag
 abbrev pub new_unit : (number faction region structure : ℕ) → Unit
 new_unit number faction region structure = record {
   faction = faction;
@@ -61,8 +61,8 @@ abbrev pub alias_of : OperandsValue → ℕ
 alias_of (operands.Alias alias) = alias
 alias_of order = 0
 
--- the aliases after an order of FORM by faction f: if it is Done, with the number of the new unit, this unit has the
--- alias; otherwise they stay
+-- the aliases after an order of FORM by faction f, with this alias and this outcome: where it is Done, with the number
+-- of the new unit, this unit has the alias; otherwise they stay
 abbrev pub aliases_after : Aliases → (f alias : ℕ) → Outcome → Aliases
 aliases_after aliases f alias (Done number) = with_alias aliases f alias number
 aliases_after aliases f alias outcome = aliases

@@ -56,7 +56,7 @@ guard_step w aliases t = guard_effect t.unit t.order_value.operands
 abbrev pub guard_affects : Affects
 guard_affects t number faction = IsOwnOrder t number faction × (t.order_value.operands ≡ operands.Flag true)
 
--- the specification of the phase of GUARD 1: its orders are carried out one by one, and a unit for which its own
--- faction wrote no GUARD 1 is no worse off
+-- The specification of the phase of GUARD 1: it carries its orders out one by one, and books nothing. A unit for which
+-- its own faction wrote no GUARD 1 is still there, and no worse off.
 abbrev pub guard_spec : PhaseSpec
 guard_spec = goes_by_orders guard_step is_guarding guard_affects IsNoWorse

@@ -75,7 +75,7 @@ name_step w a t = name_effect w t.unit t.order_value.operands
 abbrev pub name_affects : Affects
 name_affects t number faction = IsOwnOrder t number faction × (t.order_value.operands ≢ operands.Flag true)
 
--- The specification of the phase of NAME and GUARD 0: its orders are carried out one by one. A unit for which its own
--- faction wrote no NAME or GUARD 0 is no worse off.
+-- The specification of the phase of NAME and GUARD 0: it carries its orders out one by one, and books nothing. A unit
+-- for which its own faction wrote no NAME or GUARD 0 is still there, and no worse off.
 abbrev pub name_spec : PhaseSpec
 name_spec = goes_by_orders name_step is_naming name_affects IsNoWorse

@@ -51,8 +51,8 @@ is_structure_in region (Some s) = s.region == region
 abbrev pub enter_fault : CampaignValue → (s : ℕ) → Unit → Option EventFault
 enter_fault c s u = first_fault ((not (is_structure_in u.region (get c.structures s)), NotHere) ∷ [])
 
--- The campaign with unit n of this region, which was inside `from`, inside structure s. The structures left and entered
--- get new owners as `with_place` says. Nothing changes if `from` is s.
+-- The campaign with unit n of this region, which was inside `from` (0: none), inside structure s. The structures left
+-- and entered get new owners as `with_place` says. Nothing changes if `from` is s, or n isn't there.
 abbrev pub with_unit_inside : CampaignValue → (n region from s : ℕ) → CampaignValue
 with_unit_inside c n region from s = if from == s then c else with_place c n region s
 
@@ -81,11 +81,11 @@ place_effect w a f n (operands.Number s) = Some (enter n s)
 place_effect w a f n (operands.Unit to) = Some (promote n (unit_of a f to))
 place_effect w a f n other = None
 
--- what the phase does at one order: the effect of an order of LEAVE, ENTER or PROMOTE
+-- what the phase does at one order: the effect of LEAVE, ENTER or PROMOTE; None for operands of any other form
 abbrev pub place_step : OrderMeaning
 place_step w a t = place_effect w a t.faction t.unit t.order_value.operands
 
--- The specification of the phase of LEAVE, ENTER and PROMOTE: its orders are carried out one by one. A unit for which
--- its own faction wrote no LEAVE, ENTER or PROMOTE is no worse off.
+-- The specification of the phase of LEAVE, ENTER and PROMOTE: it carries its orders out one by one, and books nothing.
+-- A unit for which its own faction wrote no LEAVE, ENTER or PROMOTE is still there, and no worse off.
 abbrev pub place_spec : PhaseSpec
 place_spec = goes_by_orders place_step is_placing IsOwnOrder IsNoWorse

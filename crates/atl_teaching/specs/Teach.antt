@@ -89,8 +89,8 @@ lesson c taught places ns =
 
 -- ---- TEACH
 
--- Why the unit of an order can't teach, the first that fits of NotYours, NoMen, NotLearning and CannotTeach; None where
--- it can. Of its `pupils` those in `below` have a lower level than the unit.
+-- Why the unit of an order can't teach; None where it can. It is the first that fits of NotYours, NoMen, NotLearning
+-- (it has no `pupils`) and CannotTeach (none of them is in `below`, those with a lower level than the unit).
 abbrev pub teach_fault : CampaignValue → Task → (pupils below : List ℕ) → Option EventFault
 teach_fault c t pupils below = first_fault (
     (not (is_own c t), NotYours)
@@ -99,8 +99,8 @@ teach_fault c t pupils below = first_fault (
     ∷ (length below == 0, CannotTeach)
     ∷ [])
 
--- How many men of each unit were taught so far after an order of TEACH, and the order's outcome; with a fault it
--- teaches nobody.
+-- How many men of each unit were taught so far after an order of TEACH, and its outcome. The unit has a lesson with 10
+-- places for each of its men, for its pupils of a lower level; with a fault it teaches nobody.
 unfoldable pub teach : CampaignValue → Aliases → Learning → TaughtMen → Task → TaughtMen × Outcome
 teach c aliases learning taught t =
     let pupils = pupils_of c aliases learning t in
