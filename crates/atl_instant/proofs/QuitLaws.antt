@@ -1,8 +1,8 @@
 -- Laws of QUIT: units leave, what they had is booked as gone, and structures get other owners; the campaign stays
 -- steady. A unit is no worse off, unless its faction quits by an order for a unit that was its own as the phase began.
 -- A unit is no worse off (`IsNoWorse`) with the same faction, place, name and guard flag, and no less men, money, goods
--- and days. In the laws e is an entry of the books, s and t are things, h is what a unit holds, and `es` and `xs` list
--- items with their amounts.
+-- and days. In the laws e is an entry of the books, s and t are things, and h is what a unit holds. `es` and `xs` list
+-- items with their amounts, and i is an index within `xs`.
 use Rattle.std.proofs.Common.{◌≡◌, ◌≢◌, ◌==◌, ℕ, ◌+◌, ◌*◌, ◌≤◌, ◌<◌, not, Bool, true, false, cond, List, [], ◌∷◌, length, drop, get_or, Option, Some, None, refl, sym, ap, subst, ◌∙◌, inl, inr, arith}
 use Rattle.std.specs.Prelude.{ℤ, pos, neg_ℤ, ◌+ℤ◌, IfSome, fold, unwrap_or, if◌then◌else◌}
 use Rattle.std.proofs.lemmas.Int.{ints}

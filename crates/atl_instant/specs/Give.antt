@@ -53,8 +53,8 @@ give_fault gift n itself u (Some v) =
     ∷ (not itself && nat_lt holding_limit (held_of gift v.holding + n), NoRoom)
     ∷ [])
 
--- The campaign after n of the gift went from unit `from` to unit `to`, given as they are before.
--- Nothing changes if both are one unit, or one of them isn't there (None).
+-- The campaign after n of the gift went from unit `from` to unit `to`, given as they are before; a giver that has less
+-- keeps 0. Nothing changes if both are one unit, or one of them isn't there (None).
 abbrev pub after_gift : CampaignValue → (from to : ℕ) → Gift → (n : ℕ) → Option Unit → Option Unit → CampaignValue
 after_gift c from to gift n (Some u) (Some v) =
     let less = with_held_of gift u.holding (held_of gift u.holding - n) in

@@ -94,8 +94,7 @@ pub record IsOwnRow (f : Format) (rows : List StoredCampaign) (own : StoredCampa
   pub world : world_of_text f own.world ≡ Ok w
 
 -- The result of judging: Ok of a value that fulfils the first condition (`Is`), Damaged by the first rule if the second
--- (`Nothing`) holds, or Memory.
--- It is no other fault.
+-- (`Nothing`) holds, or Memory; no other fault.
 abbrev pub Judges : {A : Type 0} → (A → Type 0) → Type 0 → Result A LoadFault → Type 0
 Judges Is Nothing (Ok a) = Is a
 Judges Is Nothing (Err Memory) = ⊤
@@ -137,11 +136,12 @@ abbrev pub AreRows : Database → Part → List Row → Type 0
 AreRows db part rows =
     HasTablesOf (select_of_part part).since db.schema → IsPermutation ((select_of_part part).in_table db.trees) rows
 
--- for each part that was read, the rows are all rows of the part's table (`AreRows`)
+-- for each part that was read, the rows are all rows of its table, if the schema has the tables for it (`AreRows`)
 abbrev pub AreAllRows : Database → ReadRows → Type 0
 AreAllRows db reads = (read : Part × List Row) → Has reads read → AreRows db read.0 read.1
 
--- for each part that was read: all rows of its table (`AreRows`) if the format has the part, else no row
+-- for each part that was read: if the format has the part, all rows of its table, if the schema has the tables for it
+-- (`AreRows`); else no row
 pub record AreOfFormat (f : Format) (db : Database) (reads : ReadRows) : Type 0 where
   pub each : (read : Part × List Row) → Has reads read
       → (Has (parts_in f) read.0 × AreRows db read.0 read.1) ⊎ ((¬ Has (parts_in f) read.0) × (read.1 ≡ []))
