@@ -89,7 +89,7 @@ entries_apart {V} (e ∷ es) sorted = (
   entries_apart es (and_parts _ _ sorted).1,
 )
 
--- the rows that `line` makes of a map's entries have different integers in the first column, if it puts the key there
+-- the rows that `line` makes of a map's entries have different integers in column 0, if it puts the number there
 pub lines_keys : {V : Type 0} (line : ℕ → V → Row) → ((n : ℕ) (v : V) → column (line n v) 0 ≡ Int (pos n))
     → (m : FinMap nat_cmp V) → HaveDistinctIntegers 0 (rows_in_order line (entries m))
 lines_keys {V} line numbered m = numbers_keys (λ (e : ℕ × V). line e.0 e.1) (λ (e : ℕ × V). pos e.0) 0 (λ e. numbered e.0 e.1) (entries m) (entries_apart (entries m) (in_order m))
