@@ -60,7 +60,7 @@ capacity = number_of_kind (λ k. k.capacity)
 abbrev pub crew_of : WorldValue → HoldingValue → ℕ
 crew_of w h = h.men * level_in_any h w.rules.sailing
 
--- the sum, over all units inside a structure, of what `f` gives of each unit's holding; 0 for structure 0 (none)
+-- the sum, over all units inside a structure, of what `f` gives for what each unit holds; 0 for structure 0 (none)
 abbrev pub sum_inside : (HoldingValue → ℕ) → CampaignValue → (structure : ℕ) → ℕ
 sum_inside f c s = sum_by (λ n. option_map_or (λ u. f u.holding) (get c.units n) 0) (numbers_inside s c.units)
 

@@ -137,7 +137,7 @@ set_again days f none some =
 abbrev days_staying : (n men : ℕ) → (skill days : ℕ) → ℕ
 days_staying n men k d = d - days_going n men d
 
--- the holding that the code sets for the sender of n men is that of the definition (`after_sending`), if the sender
+-- what the sender of n men holds after the code's changes is what the definition says (`after_sending`), if the sender
 -- lists no skill with 0 days
 pub sender_holding_is : (n : ℕ) (h : HoldingValue) → Every (λ s d. 1 ≤ d) h.days
     → record h { men = h.men - n; days = with_days h.days (left_list n h.men h.days) } ≡ after_sending n h
@@ -153,7 +153,7 @@ sender_holding_is n h had =
 abbrev raised_days : (n men : ℕ) → FinMap nat_cmp ℕ → (skill days : ℕ) → ℕ
 raised_days n men had k d = amount_of had k + days_going n men d
 
--- the holding that the code sets for the receiver of n men is that of the definition (`after_receiving`), if the
+-- what the receiver of n men holds after the code's changes is what the definition says (`after_receiving`), if the
 -- receiver lists no skill with 0 days
 pub receiver_holding_is : (n : ℕ) (other h : HoldingValue) → Every (λ s d. 1 ≤ d) h.days
     → record h { men = h.men + n; days = with_days h.days (raised_list n other.men other.days h.days) }

@@ -47,7 +47,7 @@ can_give gift n u v is =
     let two = none_fits little NotEnough ((full, NoRoom) ∷ []) one.1 in
     record { enough = not_less (held_of gift u.holding) n two.0; room = not_less holding_limit (held_of gift v.holding + n) (none_fits full NoRoom [] two.1).0 }
 
--- a unit whose holding is within its limits (`IsHolding`) holds at most 999,999,999 of the gift
+-- a unit that holds h, which is within the limits of a unit (`IsHolding`), holds at most 999,999,999 of the gift
 pub held_within : (gift : Gift) (h : HoldingValue) → IsHolding h → held_of gift h ≤ holding_limit
 held_within Money h is = is.money
 held_within (Item i) h is = amount_within h i is
@@ -59,8 +59,8 @@ abbrev pub IsKnown : WorldValue → Gift → Type 0
 IsKnown w Money = ⊤
 IsKnown w (Item i) = i < length w.items
 
--- a unit may have (`MayHave`) any amount of the gift up to `holding_limit`, if the gift is of the world, and the unit
--- may have what it holds
+-- a unit may have (`MayHave`) any amount of the gift up to 999,999,999, if the gift is money or an item of the world
+-- (`IsKnown`), and the unit may have what it holds, h
 pub may_have_of : (w : WorldValue) (h : HoldingValue) (gift : Gift) (amount : ℕ) → IsKnown w gift
     → amount ≤ holding_limit → MayHave w h → MayHave w (with_held_of gift h amount)
 may_have_of w h Money amount known most may = record {

@@ -141,7 +141,7 @@ may_have_fewer w n h fewer may = record {
     had : (a g d : ℕ) → d ≡ a - g → 1 ≤ d → 1 ≤ a
     had a g d is some = omega (arith, is, some)
 
--- A unit with holding h may have (`MayHave`) what it holds after n men of another unit (with holding `other`) came. For
+-- A unit that holds h may have (`MayHave`) what it holds after n men of another unit, which holds `other`, came. For
 -- this both may have what they hold before, and there is room for the men.
 pub may_have_more : (w : WorldValue) (n : ℕ) (other h : HoldingValue) → h.men + n ≤ men_limit → MayHave w other
     → MayHave w h → MayHave w (after_receiving n other h)
@@ -173,8 +173,8 @@ may_have_more w n other h room from may = record {
     sum_of_days_within : (k m n a b : ℕ) → a ≤ k * m → b ≤ k * n → a + b ≤ k * (m + n)
     sum_of_days_within k m n a b f g = rw (mul-add k m n) (omega (arith, f, g))
 
--- sender (with holding h) and receiver (k) together hold as much of each thing after n men went as before, if the
--- sender had n men
+-- sender (who holds h) and receiver (k) together hold as much of each thing after n men went as before, if the sender
+-- had at least n men
 pub transfer_keeps_sum : (n : ℕ) (h k : HoldingValue) → n ≤ h.men → (t : Thing)
     → unit_amount t (after_sending n h) + unit_amount t (after_receiving n h k) ≡ unit_amount t h + unit_amount t k
 transfer_keeps_sum n h k l things.Money = refl

@@ -37,7 +37,7 @@ is_unit_limit c = nat_le most_units (len c.units) || nat_lt last_unit c.next_uni
 abbrev pub form_fault : CampaignValue → (f n : ℕ) → Option EventFault
 form_fault c f n = first_fault ((not (is_of_faction f (get c.units n)), NotYours) ∷ (is_unit_limit c, UnitLimit) ∷ [])
 
--- a new unit, named `Unit` and its number, inside the structure (0: none), without men, money, goods or guard flag
+-- a new unit, named `Unit` and its number, in the structure (0: none), without men, money, items, days or guard flag
 abbrev pub new_unit : (number faction region structure : ℕ) → Unit
 new_unit number faction region structure = record {
   faction = faction;

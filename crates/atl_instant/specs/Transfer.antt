@@ -41,7 +41,7 @@ going_of n h s = days_going n h.men (amount_of h.days s)
 abbrev pub staying_of : (n : ℕ) → HoldingValue → (skill : ℕ) → ℕ
 staying_of n h s = amount_of h.days s - going_of n h s
 
--- the days of a skill that a unit with holding h has after n men of a unit with holding `other` came
+-- the days of a skill that a unit that holds h has after n men of a unit that holds `other` came
 abbrev pub raised_of : (n : ℕ) → (other h : HoldingValue) → (skill : ℕ) → ℕ
 raised_of n other h s = amount_of h.days s + going_of n other s
 
@@ -49,8 +49,8 @@ raised_of n other h s = amount_of h.days s + going_of n other s
 abbrev pub after_sending : (n : ℕ) → HoldingValue → HoldingValue
 after_sending n h = record h { men = h.men - n; days = amounts_for (staying_of n h) (keys h.days) }
 
--- what a unit with holding h holds after n men of a unit with holding `other` came, with their part of the days; a
--- skill of which it has 0 days isn't listed
+-- what a unit that holds h holds after n men of a unit that holds `other` came, with their part of the days; a skill of
+-- which it has 0 days isn't listed
 abbrev pub after_receiving : (n : ℕ) → (other h : HoldingValue) → HoldingValue
 after_receiving n other h =
     record h { men = h.men + n; days = amounts_for (raised_of n other h) (keys h.days ++ keys other.days) }
