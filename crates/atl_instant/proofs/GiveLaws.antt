@@ -83,7 +83,7 @@ gift_leaves_flag_and_men : (gift : Gift) (h : HoldingValue) (amount : ℕ)
 gift_leaves_flag_and_men Money h amount = (refl, refl)
 gift_leaves_flag_and_men (Item i) h amount = (refl, refl)
 
--- giver (with holding h) and receiver (k) together hold as much of each thing after a gift of n as before, if the giver
+-- giver (who holds h) and receiver (k) together hold as much of each thing after a gift of n as before, if the giver
 -- has what it gives
 pub gift_keeps_sum : (gift : Gift) (n : ℕ) (h k : HoldingValue) → n ≤ held_of gift h → (t : Thing)
     → unit_amount t (with_held_of gift h (held_of gift h - n)) + unit_amount t (with_held_of gift k (held_of gift k + n))

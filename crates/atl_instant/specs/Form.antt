@@ -46,8 +46,8 @@ new_unit number faction region structure = record {
   holding = record { name = codes "Unit " ++ decimal number; men = 0; money = 0; guard = false; items = empty; days = empty };
 }
 
--- The campaign with a new unit of faction f, in the region and the structure of unit n, both 0 where n isn't there. It
--- has the next unit number, which rises by one (`with_unit_begun`).
+-- The campaign with a new unit of faction f, in the region and the structure (0: none) of unit n; both are 0 where n
+-- isn't there. It has the next unit number, which rises by one (`with_unit_begun`).
 abbrev pub with_formed_unit : CampaignValue → (f n : ℕ) → CampaignValue
 with_formed_unit c f n = with_unit_begun c (new_unit c.next_unit f (region_of c n) (structure_of_unit c n))
 

@@ -73,8 +73,8 @@ give_to c from to gift n u receiver =
 unfoldable pub give : (from to : ℕ) → Gift → (n : ℕ) → OrderEffect
 give from to gift n c u = give_to c from to gift n u (get c.units to)
 
--- The effect of an order of faction f for unit `from`, by its operands. GIVE has an amount of an item, and PAY one of
--- money; operands of any other form have no effect (None).
+-- The effect of an order of faction f for unit `from`, by its operands; an alias in them is a unit of f by `aliases`.
+-- GIVE has an amount of an item, and PAY one of money; operands of any other form have no effect (None).
 abbrev pub give_effect : Aliases → (f from : ℕ) → OperandsValue → Option OrderEffect
 give_effect aliases f from (operands.UnitAndGoods to n item) = Some (give from (unit_of aliases f to) (Item item) n)
 give_effect aliases f from (operands.UnitAndNumber to n) = Some (give from (unit_of aliases f to) Money n)

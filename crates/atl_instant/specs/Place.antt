@@ -74,7 +74,7 @@ unfoldable pub promote : (n to : ℕ) → OrderEffect
 promote n to c u = fault_or c (promote_fault c n to u) (with_owner c u.structure to, Done 0)
 
 -- The effect of an order of faction f for unit n, by the form of its operands. LEAVE has none, ENTER a number, and
--- PROMOTE a unit; operands of any other form have no effect (None).
+-- PROMOTE a unit (of f by `a` if it is an alias); operands of any other form have no effect (None).
 abbrev pub place_effect : WorldValue → Aliases → (f n : ℕ) → OperandsValue → Option OrderEffect
 place_effect w a f n operands.Nothing = Some (leave w n)
 place_effect w a f n (operands.Number s) = Some (enter n s)

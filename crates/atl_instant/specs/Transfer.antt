@@ -98,7 +98,8 @@ transfer_to c from to n u receiver =
 unfoldable pub transfer : (from to n : ℕ) → OrderEffect
 transfer from to n c u = transfer_to c from to n u (get c.units to)
 
--- the effect of an order of TRANSFER of faction f for unit `from`, by its operands; None for operands of any other form
+-- the effect of a TRANSFER of faction f for unit `from`, by its operands; an alias in them is a unit of f by `aliases`;
+-- None for operands of any other form
 abbrev pub transfer_effect : Aliases → (f from : ℕ) → OperandsValue → Option OrderEffect
 transfer_effect aliases f from (operands.UnitAndNumber to n) = Some (transfer from (unit_of aliases f to) n)
 transfer_effect aliases f from other = None
