@@ -59,8 +59,8 @@ abbrev pub IsKnown : WorldValue → Gift → Type 0
 IsKnown w Money = ⊤
 IsKnown w (Item i) = i < length w.items
 
--- a unit may have (`MayHave`) any amount of the gift up to 999,999,999, if the gift is money or an item of the world
--- (`IsKnown`), and the unit may have what it holds, h
+-- A unit that may have what it holds, h, may also have (`MayHave`) any amount of the gift up to 999,999,999. For this
+-- the gift is money, or an item of the world (`IsKnown`).
 pub may_have_of : (w : WorldValue) (h : HoldingValue) (gift : Gift) (amount : ℕ) → IsKnown w gift
     → amount ≤ holding_limit → MayHave w h → MayHave w (with_held_of gift h amount)
 may_have_of w h Money amount known most may = record {

@@ -178,7 +178,7 @@ abbrev held_of_thing : HoldingValue → Thing → ℕ
 held_of_thing h s =
     amount_as_thing s People h.men + (amount_as_thing s Money h.money + held_in_items (entries h.items) s)
 
--- the bound on the books for booking as gone all that a unit has
+-- the bound on the books for booking as gone all that a unit has: men as left, its money and each item as lost
 abbrev pub held_moves : HoldingValue → BookBound
 held_moves h =
     both_move (moves_only h.men Left People) (both_move (moves_only h.money Lost Money) (items_bound (entries h.items)))

@@ -100,8 +100,8 @@ rest_within k s n d some most = elim (cases_lt (k * s) d) [
     scaled : (y : ℕ) → y ≤ k * n → y * (s + n) ≤ (k * s + y) * n
     scaled y few = rw (turned k s n y, mul-add y s n) (sum (y * s) ((k * n) * s) (y * n) (mul-le-mul_right s few))
 
--- if `men` men have together at least one day and at most 450 for each, the days that stay as n of them go are at most
--- 450 for each who stays
+-- Suppose that `men` men have together at least one day, and at most 450 for each. Then the days that stay as n of them
+-- go are at most 450 for each who stays.
 pub staying_days_within : (n men days : ℕ) → n ≤ men → 1 ≤ days → days ≤ most_days * men
     → days - days_going n men days ≤ most_days * (men - n)
 staying_days_within n men days fewer some most =

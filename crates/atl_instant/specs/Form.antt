@@ -61,8 +61,8 @@ abbrev pub alias_of : OperandsValue → ℕ
 alias_of (operands.Alias alias) = alias
 alias_of order = 0
 
--- the aliases after an order of FORM by faction f, with this alias and this outcome: where it is Done, with the number
--- of the new unit, this unit has the alias; otherwise they stay
+-- The aliases after an order of FORM by faction f, with this alias and this outcome. Where it is Done, with the number
+-- of the new unit, this unit has the alias; otherwise they stay.
 abbrev pub aliases_after : Aliases → (f alias : ℕ) → Outcome → Aliases
 aliases_after aliases f alias (Done number) = with_alias aliases f alias number
 aliases_after aliases f alias outcome = aliases

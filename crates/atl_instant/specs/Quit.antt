@@ -104,8 +104,8 @@ quit_keeps w m before after = others_unaffected (QuitsByOwnUnit before) IsNoWors
 abbrev pub quit_moves : BookBound
 quit_moves e t = if entry_index e == entry_index (loss_entry t) then most_moved else 0
 
--- how much of a thing is booked under an entry when a unit leaves with all that it holds: what it holds of the thing
--- under the entry for its loss, and 0 under any other entry
+-- How much of a thing is booked under an entry when a unit leaves with all that it holds. It is what the unit holds of
+-- the thing under the entry for its loss, and 0 under any other entry.
 abbrev pub loss_under : BooksEntry → Thing → HoldingValue → ℕ
 loss_under e t h = if entry_index e == entry_index (loss_entry t) then unit_amount t h else 0
 

@@ -49,8 +49,8 @@ raised_of n other h s = amount_of h.days s + going_of n other s
 abbrev pub after_sending : (n : ℕ) → HoldingValue → HoldingValue
 after_sending n h = record h { men = h.men - n; days = amounts_for (staying_of n h) (keys h.days) }
 
--- what a unit that holds h holds after n men of a unit that holds `other` came, with their part of the days; a skill of
--- which it has 0 days isn't listed
+-- What a unit that holds h holds after n men of a unit that holds `other` came, with their part of the days. A skill of
+-- which it has 0 days isn't listed.
 abbrev pub after_receiving : (n : ℕ) → (other h : HoldingValue) → HoldingValue
 after_receiving n other h =
     record h { men = h.men + n; days = amounts_for (raised_of n other h) (keys h.days ++ keys other.days) }
@@ -67,8 +67,8 @@ abbrev pub DaysGoWithMen : Type 0
 DaysGoWithMen = (n : ℕ) (other h : HoldingValue) (skill : ℕ) → HaveDaysOf n other h skill
 
 -- The first fault as unit u sends n men to a receiver, None where there is none. It is NotHere where the receiver isn't
--- there (None) or is in another region, NotYours where it is another faction's, NotEnough where u has fewer men, or
--- NoRoom where the receiver would have over 999,999. Where u sends them to itself (`itself`), there is always room.
+-- there (None) or is in another region, or NotYours where it is another faction's. It is NotEnough where u has fewer
+-- men, or NoRoom where the receiver would have over 999,999. To itself (`itself`) there is always room.
 abbrev pub transfer_fault : (n : ℕ) → (itself : Bool) → Unit → Option Unit → Option EventFault
 transfer_fault n itself u None = Some NotHere
 transfer_fault n itself u (Some v) =
@@ -98,8 +98,8 @@ transfer_to c from to n u receiver =
 unfoldable pub transfer : (from to n : ℕ) → OrderEffect
 transfer from to n c u = transfer_to c from to n u (get c.units to)
 
--- the effect of a TRANSFER of faction f for unit `from`, by its operands; an alias in them is a unit of f by `aliases`;
--- None for operands of any other form
+-- The effect of a TRANSFER of faction f for unit `from`, by its operands; an alias in them is a unit of f by `aliases`.
+-- It is None for operands of any other form.
 abbrev pub transfer_effect : Aliases → (f from : ℕ) → OperandsValue → Option OrderEffect
 transfer_effect aliases f from (operands.UnitAndNumber to n) = Some (transfer from (unit_of aliases f to) n)
 transfer_effect aliases f from other = None

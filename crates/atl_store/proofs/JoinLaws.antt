@@ -266,8 +266,8 @@ reporting_done n report after start one two three first second third =
     let people = WritesAmount after Joining People in
     inside_then HasTables (Puts report_table 1 (report_row n report)) (DoesBoth money people) start one three first (inside_then HasTables money people one two three second third)
 
--- to put campaign row, faction and unit, and then to write the report and both amounts, writes the join (`WritesJoin`),
--- if all of these are those of the newcomer in `after` (`HasArrivalWith`)
+-- To put campaign row, faction and unit, and then to write the report and both amounts, writes the join (`WritesJoin`).
+-- For this all of these are in `after` (`HasArrivalWith`).
 pub joining_done : (n : ℕ) (f : Faction) (m : ℕ) (u : Unit) (report : List ℕ) (after : CampaignValue) (world : List ℕ) (start one two : State)
     → HasArrivalWith after n f m u report
     → DoesInside HasTables (DoesBoth (PutsCampaignRow (campaign_row_of after) world) (DoesBoth (Puts faction_table 1 (row_of_faction n f)) (Puts unit_table 1 (row_of_unit m u)))) start one

@@ -232,8 +232,8 @@ made_placed {p} {A} {part} {stored} {values} is has placed are apart = record {
   apart = λ _. placed_keys is placed apart;
 }
 
--- All parts are made of what was read (`IsMadeOf`), if `head` is the only campaign row of `p`, and all other parts were
--- read in their order, each of which is made so (`IsMadeAs`).
+-- All parts are made of what was read (`IsMadeOf`), if `head` is the only campaign row of `p`. For this all other parts
+-- were read in their order, and each is made so (`IsMadeAs`).
 pub made_of : {head : StoredCampaignRow} {reads : ReadRows} {p : Parts}
     → map (λ read. read.0) reads ≡ other_parts Second → p.campaign ≡ head ∷ [] → AllByRecursion (IsMadeAs p) reads
     → IsMadeOf head reads p
@@ -244,8 +244,8 @@ made_of {head} {reads} {p} parts campaign all = record {
   apart = record { each = λ read there. (all_has (IsMadeAs p) reads read all there).apart };
 }
 
--- If testing the rowids of one part that was read ends in a fault, Store if two are alike, or Memory, this is also a
--- fault of testing those of all parts (`FailsWithout`). `r` is the result of the latter, with the same fault.
+-- A fault of testing the rowids of one part that was read, Store if two are alike, or Memory, is also one of testing
+-- those of all parts (`FailsWithout`). `r` is the result of the latter, with the same fault.
 pub part_fault_is_of_all : {A B : Type 0} {part : Part} {stored : RowWithId A → Row} {values : A → Row}
     → IsPlacedAs part stored values → shows_rowids part ≡ true → (placed : List (RowWithId A)) (reads : ReadRows)
     → Has reads (part, map stored placed)
