@@ -514,9 +514,9 @@ remaining_within w c steady e t = by_test (entry_index e == entry_index (loss_en
         none (sum_over (λ (u : Unit). 0) c.units) (length (entries c.units))
         (sum_within (λ (u : Unit). 0) 0 (entries c.units) (each-from_every (λ n u. 0 ≤ 0) c.units (λ n u is. omega arith)))
 
--- In a steady campaign a QUIT for a unit of its writer's faction leaves a unit no worse off, unless the unit's own
--- faction wrote it, with the faction's own number. If it can be read with the world, the campaign stays steady, in its
--- month and in balance, and no more is booked than the leaving units had.
+-- In a steady campaign a QUIT for a unit of its writer's faction leaves a unit no worse off, unless the unit's faction
+-- wrote it, with its own number. If it can be read with the world, the campaign stays steady, in its month and in
+-- balance, and no more is booked than the leaving units had.
 pub quit_orderly : IsOrderly quit_step IsSteady quit_remaining quit_moves quit_affects IsNoWorse
 quit_orderly = record {
   well = λ w a c t x steady fit own. well w c x steady t.order_value.operands;

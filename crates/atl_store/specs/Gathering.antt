@@ -263,7 +263,7 @@ abbrev pub without_ids : Part → List Row → List Row
 without_ids part rows = if shows_rowids part then map (take (column_count part)) rows else rows
 
 -- The parts `p` are put together of what was read: the campaign row `head`, and the rows `reads` of all other parts.
--- In `p` the rows have no rowids. No two rows of a part had the same rowid.
+-- In `p` the rows have no rowids. No two rows of a part that is shown with rowids had the same one.
 pub record IsMadeOf (head : StoredCampaignRow) (reads : ReadRows) (p : Parts) : Type 0 where
   -- all parts but the campaign row were read, in their order
   pub parts : map (λ read. read.0) reads ≡ other_parts Second
