@@ -48,7 +48,7 @@ walk_fault w u to = first_fault (
 abbrev pub with_unit_moved : (structure to : ℕ) → CampaignValue → (n : ℕ) → CampaignValue
 with_unit_moved structure to c n = with_guard (with_place c n to structure) n false
 
--- the effect of MOVE: unit n walks to the region in this direction, unless the order has a fault
+-- the effect of MOVE, Done with 0: unit n walks to the region in this direction; with a fault nothing changes
 unfoldable pub walk : WorldValue → (n : ℕ) → Direction → OrderEffect
 walk w n direction c u =
     let to = neighbour w u.region direction in

@@ -68,8 +68,8 @@ abbrev pub give_to : CampaignValue → (from to : ℕ) → Gift → (n : ℕ) �
 give_to c from to gift n u receiver =
     fault_or c (give_fault gift n (to == from) u receiver) (after_gift c from to gift n (Some u) receiver, Done n)
 
--- the effect of an order by which unit `from` gives n of the gift, money or an item, to unit `to`; with a fault nothing
--- changes
+-- the effect, Done with n, of an order by which unit `from` gives n of the gift, money or an item, to unit `to`; with a
+-- fault nothing changes
 unfoldable pub give : (from to : ℕ) → Gift → (n : ℕ) → OrderEffect
 give from to gift n c u = give_to c from to gift n u (get c.units to)
 

@@ -38,7 +38,7 @@ is_guarded_against c region faction = list_any (λ n. guards_against faction (ge
 abbrev pub guard_fault : CampaignValue → Unit → Option EventFault
 guard_fault c u = first_fault ((u.holding.men == 0, NoMen) ∷ (is_guarded_against c u.region u.faction, Guarded) ∷ [])
 
--- the effect of GUARD 1: the guard flag of unit n is set, unless the order has a fault
+-- the effect of GUARD 1, Done with 0: the guard flag of unit n is set; with a fault (`guard_fault`) nothing changes
 unfoldable pub guard : (n : ℕ) → OrderEffect
 guard n c u = fault_or c (guard_fault c u) (with_guard c n true, Done 0)
 

@@ -37,8 +37,8 @@ is_placing verb = false
 abbrev pub leave_fault : WorldValue → Unit → Option EventFault
 leave_fault w u = first_fault ((u.structure == 0, NotInside) ∷ (not (is_land_at w u.region), AtSea) ∷ [])
 
--- the effect of LEAVE: unit n is inside no structure, and one that it owned gets its next owner (`with_place`), unless
--- the order has a fault
+-- the effect of LEAVE, Done with 0: unit n is inside no structure, and one that it owned gets its next owner
+-- (`with_place`); with a fault (`leave_fault`) nothing changes
 unfoldable pub leave : WorldValue → (n : ℕ) → OrderEffect
 leave w n c u = fault_or c (leave_fault w u) (with_place c n u.region 0, Done 0)
 
@@ -56,7 +56,7 @@ enter_fault c s u = first_fault ((not (is_structure_in u.region (get c.structure
 abbrev pub with_unit_inside : CampaignValue → (n region from s : ℕ) → CampaignValue
 with_unit_inside c n region from s = if from == s then c else with_place c n region s
 
--- the effect of ENTER: unit n is inside structure s, as `with_unit_inside` says, unless the order has a fault
+-- the effect of ENTER, Done with 0: unit n is inside structure s (`with_unit_inside`); with a fault nothing changes
 unfoldable pub enter : (n s : ℕ) → OrderEffect
 enter n s c u = fault_or c (enter_fault c s u) (with_unit_inside c n u.region u.structure s, Done 0)
 
@@ -69,7 +69,7 @@ promote_fault c n to u = first_fault (
     ∷ (not (structure_of_unit c to == u.structure), NotHere)
     ∷ [])
 
--- the effect of PROMOTE: unit `to` owns the structure that unit n is inside, unless the order has a fault
+-- the effect of PROMOTE, Done with 0: unit `to` owns the structure that n is inside; with a fault nothing changes
 unfoldable pub promote : (n to : ℕ) → OrderEffect
 promote n to c u = fault_or c (promote_fault c n to u) (with_owner c u.structure to, Done 0)
 

@@ -66,7 +66,7 @@ after_leaving c n = without_leaver c n (get c.units n)
 abbrev pub quit_fault : (number : ℕ) → Unit → Option EventFault
 quit_fault number u = first_fault ((not (number == u.faction), WrongNumber) ∷ [])
 
--- the effect of QUIT: all units of the unit's faction leave, by rising number, unless the order has a fault
+-- the effect of QUIT, Done with 0: all units of the unit's faction leave, by rising number; a fault changes nothing
 unfoldable pub quit : (number : ℕ) → OrderEffect
 quit number c u = fault_or c (quit_fault number u) (fold after_leaving c (numbers_of_faction u.faction c.units), Done 0)
 

@@ -94,7 +94,7 @@ abbrev pub transfer_to : CampaignValue → (from to n : ℕ) → Unit → Option
 transfer_to c from to n u receiver =
     fault_or c (transfer_fault n (to == from) u receiver) (after_transfer c from to n (Some u) receiver, Done n)
 
--- the effect of an order by which unit `from` sends n men to unit `to`, unless it has a fault
+-- the effect, Done with n, of an order by which unit `from` sends n men to unit `to`; with a fault nothing changes
 unfoldable pub transfer : (from to n : ℕ) → OrderEffect
 transfer from to n c u = transfer_to c from to n u (get c.units to)
 
