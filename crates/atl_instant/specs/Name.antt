@@ -45,7 +45,7 @@ structure_name_result w c n inside ship name =
     fault_or c (structure_fault w n ship (get c.structures inside)) (with_structure_name c inside name, Done 0)
 
 -- The campaign and the outcome after an order of NAME by unit n. By the kind of name, the unit or its faction gets it,
--- with Done 0, or the structure `inside` (0: none), which the unit is inside, as `structure_name_result` says.
+-- Done with 0; or the structure `inside` (0: none), which the unit is inside, as `structure_name_result` says.
 abbrev pub name_result : WorldValue → CampaignValue → (n faction inside : ℕ) → NameKind → List ℕ → CampaignValue × Outcome
 name_result w c n f s kinds.Unit name = (with_unit_name c n name, Done 0)
 name_result w c n f s kinds.Faction name = (with_faction_name c f name, Done 0)

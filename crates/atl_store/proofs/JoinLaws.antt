@@ -2,7 +2,7 @@
 -- The faction `f` with the number `n` joins, with its unit `u` under the number `m`; `after` is the campaign then.
 -- `world` is the world text with which the campaign row is put; a row that is there keeps its own.
 -- `start` is the state before the steps of a law, and `one`, `two` and `three` are those after the first, the second
--- and the third.
+-- and the third. Each step is on tables of a campaign, and keeps all other tables (`DoesInside HasTables`).
 use Rattle.std.proofs.Common.{◌≡◌, ◌≢◌, ◌⊎◌, ◌+◌, ℕ, ℤ, pos, List, [], ◌∷◌, map, Some, None, false, refl, sym, ap, ◌∙◌, subst, inl, inr, take, arith}
 use Rattle.std.specs.Prelude.{◌+ℤ◌}
 use Rattle.std.specs.Ordering.{nat_cmp}
