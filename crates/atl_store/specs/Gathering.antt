@@ -140,8 +140,8 @@ AreRows db part rows =
 abbrev pub AreAllRows : Database → ReadRows → Type 0
 AreAllRows db reads = (read : Part × List Row) → Has reads read → AreRows db read.0 read.1
 
--- for each part that was read: all rows of its table, if the format has the part and the schema the tables for it
--- (`AreRows`); no row, if the format doesn't have the part
+-- Of each part of the format that was read, the rows are all rows of its table, if the schema has the tables for it
+-- (`AreRows`). Of any other part no row was read.
 pub record AreOfFormat (f : Format) (db : Database) (reads : ReadRows) : Type 0 where
   pub each : (read : Part × List Row) → Has reads read
       → (Has (parts_in f) read.0 × AreRows db read.0 read.1) ⊎ ((¬ Has (parts_in f) read.0) × (read.1 ≡ []))
