@@ -189,8 +189,8 @@ money_most : (w : WorldValue) (c : CampaignValue) → IsSteady w c → (e : Book
     → study_remaining c e t ≤ study_moves e t
 money_most w c steady e t = let most = all_held_within w c steady Money in grind arith
 
--- each order of STUDY that can be read with the world keeps a steady campaign steady, its month and its balance, and
--- books no more than the unit pays; a unit is unchanged unless its own faction wrote the order for it (`IsOrderly`)
+-- In a steady campaign a STUDY for a unit of its writer's faction changes no other unit. If it can be read with the
+-- world, the campaign stays steady, in its month and in balance, and no more is booked than the unit pays.
 pub study_orderly : (taught : TaughtMen)
     → IsOrderly (study_step taught) IsSteady study_remaining study_moves IsOwnOrder IsUnchanged
 study_orderly taught = record {

@@ -298,8 +298,8 @@ walk_stays w c n u direction k apart =
     walk_cases (λ d. get d.units k ≡ get c.units k) w c n u direction refl (λ to land.
     changed_else (λ (x : Unit). record x { holding = record x.holding { guard = false } }) (with_place c n to 0).units n k apart (get (with_place c n to 0).units n) ∙ place_stays c n to 0 k apart)
 
--- each order of MOVE that can be read with the world keeps a steady campaign steady, its month and its balance, and
--- books nothing; a unit is no worse off unless its own faction wrote the order for it (`IsOrderly`)
+-- In a steady campaign a MOVE for a unit of its writer's faction leaves no other unit worse off. If it can be read with
+-- the world, the campaign stays steady, in its month and in balance, and nothing is booked.
 pub walk_orderly : IsOrderly walk_step IsSteady nothing_remaining moves_nothing IsOwnOrder IsNoWorse
 walk_orderly = record {
   well = λ w a c t x steady fit own. in_each_direction (λ effect. StepsWell IsSteady nothing_remaining w c (effect c x).0) (walk w t.unit) t.order_value.operands (λ direction. walk_well w c t.unit x own.there direction steady);

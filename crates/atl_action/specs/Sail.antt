@@ -60,7 +60,7 @@ capacity = number_of_kind (λ k. k.capacity)
 abbrev pub crew_of : WorldValue → HoldingValue → ℕ
 crew_of w h = h.men * level_in_any h w.rules.sailing
 
--- the sum, over all units inside a structure, of what `f` gives of each unit's holding; 0 for structure 0 (none)
+-- the sum, over all units inside a structure, of what `f` gives for what each unit holds; 0 for structure 0 (none)
 abbrev pub sum_inside : (HoldingValue → ℕ) → CampaignValue → (structure : ℕ) → ℕ
 sum_inside f c s = sum_by (λ n. option_map_or (λ u. f u.holding) (get c.units n) 0) (numbers_inside s c.units)
 
@@ -89,13 +89,14 @@ sail_fault w c n u ship to = first_fault (
 unfoldable pub after_sailing : CampaignValue → (ship to : ℕ) → CampaignValue
 after_sailing c ship to = with_structure_region (fold (with_unit_moved ship to) c (numbers_inside ship c.units)) ship to
 
--- the effect of SAIL: the ship goes in this direction with all units inside, unless the order has a fault
+-- the effect of SAIL, Done with 0: the ship that unit n is inside goes in this direction with all units inside; with a
+-- fault nothing changes
 unfoldable pub sail : WorldValue → (n : ℕ) → Direction → OrderEffect
 sail w n direction c u =
     let to = neighbour w u.region direction in
     fault_or c (sail_fault w c n u (get c.structures u.structure) to) (after_sailing c u.structure (unwrap_or to 0), Done 0)
 
--- the step of the phase of SAIL: the effect of an order, by its unit and its operands
+-- the step of the phase of SAIL: the effect of an order, by its unit and operands; None where they name no direction
 abbrev pub sail_step : OrderMeaning
 sail_step w aliases t = by_direction (sail w t.unit) t.order_value.operands
 
@@ -142,6 +143,6 @@ sail_keeps w m before after =
     AreAtMostMoved before after
     × others_unaffected (SailsWith w before) IsUnchanged is_sailing w m before after
 
--- the specification of the phase of SAIL, which moves no amount of the books
+-- the specification of the phase of SAIL, which carries its orders out one by one, and books nothing
 abbrev pub sail_spec : PhaseSpec
 sail_spec = spec_without_books (meaning_by_orders sail_step is_sailing) sail_keeps

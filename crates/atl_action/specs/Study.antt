@@ -75,7 +75,7 @@ abbrev pub study_effect : WorldValue → TaughtMen → (n : ℕ) → OperandsVal
 study_effect w taught n (operands.Skill s) = Some (study w (taught n) n s)
 study_effect w taught n other = None
 
--- the step of STUDY: the effect of an order, given how many men of each unit were taught
+-- the step of STUDY: the effect of an order, given how many men of each unit were taught; None for any other operands
 abbrev pub study_step : TaughtMen → OrderMeaning
 study_step taught w aliases t = study_effect w taught t.unit t.order_value.operands
 

@@ -48,7 +48,7 @@ walk_fault w u to = first_fault (
 abbrev pub with_unit_moved : (structure to : ℕ) → CampaignValue → (n : ℕ) → CampaignValue
 with_unit_moved structure to c n = with_guard (with_place c n to structure) n false
 
--- the effect of MOVE: unit n walks to the region in this direction, unless the order has a fault
+-- the effect of MOVE, Done with 0: unit n walks to the region in this direction; with a fault nothing changes
 unfoldable pub walk : WorldValue → (n : ℕ) → Direction → OrderEffect
 walk w n direction c u =
     let to = neighbour w u.region direction in
@@ -59,13 +59,13 @@ abbrev pub by_direction : (Direction → OrderEffect) → OperandsValue → Opti
 by_direction effect (operands.Direction direction) = Some (effect direction)
 by_direction effect other = None
 
--- the step of the phase of MOVE: the effect of an order, by its unit and its operands
+-- the step of the phase of MOVE: the effect of an order, by its unit and operands; None where they name no direction
 abbrev pub walk_step : OrderMeaning
 walk_step w aliases t = by_direction (walk w t.unit) t.order_value.operands
 
 -- ---- the phase
 
--- The specification of the phase of MOVE, which books nothing. A unit for which no MOVE of its own faction counts keeps
--- its faction, place, name and guard flag, and loses nothing (`IsNoWorse`).
+-- The specification of the phase of MOVE, which carries its orders out one by one, and books nothing. A unit for which
+-- no MOVE of its own faction counts keeps its faction, place, name and guard flag, and loses nothing (`IsNoWorse`).
 abbrev pub walk_spec : PhaseSpec
 walk_spec = goes_by_orders walk_step is_walking IsOwnOrder IsNoWorse

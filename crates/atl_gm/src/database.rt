@@ -126,7 +126,8 @@ fn options_for(rt: &HostRuntime, pages: u64) -> Result<Options, Failure> {
     Ok(options)
 }
 
-/// Makes the files that are missing. A path that SQLite would read in another way is refused.
+/// Opens the database file at `path` and its log, and makes those that are missing. `start` says
+/// what is supposed of a crash. A path that SQLite would read in another way is refused.
 fn open_files<S: Start>(
     rt: &HostRuntime,
     path: &str,

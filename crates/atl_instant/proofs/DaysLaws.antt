@@ -125,8 +125,8 @@ setting_gives_map days had said f some some_said others each =
     (subst (Every (λ s d. 1 ≤ d)) (sym set) (no_zeros_after_setting f (entries days) had some)) some_said
     (λ s. ap (λ (m : FinMap nat_cmp ℕ). amount_of m s) set ∙ set_each days f s had (others s) ∙ each s)
 
--- Setting each skill of `days` to f of its days gives the same map in `days` itself as in the empty map. For this f
--- gives 0 for 0 days, and `days` lists no skill with 0 days.
+-- Setting each skill of `days` to what f makes of the skill and its days gives the same map in `days` itself as in the
+-- empty map. For this f gives 0 for 0 days, and `days` lists no skill with 0 days.
 pub set_again : (days : FinMap nat_cmp ℕ) (f : ℕ → ℕ → ℕ) → ((s : ℕ) → f s 0 ≡ 0) → Every (λ s d. 1 ≤ d) days
     → with_days days (map (λ e. (e.0, f e.0 e.1)) (entries days)) ≡ fold (λ (m : FinMap nat_cmp ℕ) (e : ℕ × ℕ). with_amount_of m e.0 (f e.0 e.1)) empty (entries days)
 set_again days f none some =
@@ -137,7 +137,7 @@ set_again days f none some =
 abbrev days_staying : (n men : ℕ) → (skill days : ℕ) → ℕ
 days_staying n men k d = d - days_going n men d
 
--- the holding that the code sets for the sender of n men is that of the definition (`after_sending`), if the sender
+-- what the sender of n men holds after the code's changes is what the definition says (`after_sending`), if the sender
 -- lists no skill with 0 days
 pub sender_holding_is : (n : ℕ) (h : HoldingValue) → Every (λ s d. 1 ≤ d) h.days
     → record h { men = h.men - n; days = with_days h.days (left_list n h.men h.days) } ≡ after_sending n h
@@ -153,7 +153,7 @@ sender_holding_is n h had =
 abbrev raised_days : (n men : ℕ) → FinMap nat_cmp ℕ → (skill days : ℕ) → ℕ
 raised_days n men had k d = amount_of had k + days_going n men d
 
--- the holding that the code sets for the receiver of n men is that of the definition (`after_receiving`), if the
+-- what the receiver of n men holds after the code's changes is what the definition says (`after_receiving`), if the
 -- receiver lists no skill with 0 days
 pub receiver_holding_is : (n : ℕ) (other h : HoldingValue) → Every (λ s d. 1 ≤ d) h.days
     → record h { men = h.men + n; days = with_days h.days (raised_list n other.men other.days h.days) }

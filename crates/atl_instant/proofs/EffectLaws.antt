@@ -172,7 +172,7 @@ module _ (c : CampaignValue) (from to : ℕ) (u v : Unit) (h k : HoldingValue) (
 
 -- P holds of the campaign after an order that moves something from unit `from` (u) to `to` (v), if P holds of c before.
 -- Where no fault applies and `from` isn't `to`, P must also hold of the campaign in which u holds h, and v holds k.
--- The function `fault` gives the order's fault, by whether `to` is `from` itself.
+-- The function `fault` gives the order's fault, by whether `to` is `from` itself; without one the outcome is `o`.
 pub moved_cases : (P : CampaignValue → Type 0) (c : CampaignValue) (from to : ℕ) (u v : Unit) (h k : HoldingValue) (fault : Bool → Option EventFault) (o : Outcome)
     → P c
     → (to ≢ from → fault false ≡ None → P (with_holding_at (with_holding_at c from h (Some u)) to k (Some v)))

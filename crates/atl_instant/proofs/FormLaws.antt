@@ -196,7 +196,7 @@ module _ (w : WorldValue) (c : CampaignValue) (p : ℕ) (u : Unit) (is : get c.u
 
 -- ---- what is marked
 
--- adding unit u under the next unit number, with the marks of `mark_unit_begun`, marks all that it changes
+-- adding unit u under the next unit number, with the marks of `mark_unit_begun`, marks all changes and loses no mark
 pub marks-begun : (c : MarkedCampaign) (u : Unit)
     → MarksChanges c (record { value = with_unit_begun c.value u; marks = mark_unit_begun c })
 marks-begun c u =

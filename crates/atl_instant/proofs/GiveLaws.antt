@@ -47,7 +47,7 @@ can_give gift n u v is =
     let two = none_fits little NotEnough ((full, NoRoom) ∷ []) one.1 in
     record { enough = not_less (held_of gift u.holding) n two.0; room = not_less holding_limit (held_of gift v.holding + n) (none_fits full NoRoom [] two.1).0 }
 
--- a unit whose holding is within its limits (`IsHolding`) holds at most 999,999,999 of the gift
+-- a unit that holds h, which is within the limits of a unit (`IsHolding`), holds at most 999,999,999 of the gift
 pub held_within : (gift : Gift) (h : HoldingValue) → IsHolding h → held_of gift h ≤ holding_limit
 held_within Money h is = is.money
 held_within (Item i) h is = amount_within h i is
@@ -59,8 +59,8 @@ abbrev pub IsKnown : WorldValue → Gift → Type 0
 IsKnown w Money = ⊤
 IsKnown w (Item i) = i < length w.items
 
--- a unit may have (`MayHave`) any amount of the gift up to `holding_limit`, if the gift is of the world, and the unit
--- may have what it holds
+-- A unit that may have what it holds, h, may also have (`MayHave`) any amount of the gift up to 999,999,999. For this
+-- the gift is money, or an item of the world (`IsKnown`).
 pub may_have_of : (w : WorldValue) (h : HoldingValue) (gift : Gift) (amount : ℕ) → IsKnown w gift
     → amount ≤ holding_limit → MayHave w h → MayHave w (with_held_of gift h amount)
 may_have_of w h Money amount known most may = record {
@@ -83,7 +83,7 @@ gift_leaves_flag_and_men : (gift : Gift) (h : HoldingValue) (amount : ℕ)
 gift_leaves_flag_and_men Money h amount = (refl, refl)
 gift_leaves_flag_and_men (Item i) h amount = (refl, refl)
 
--- giver (with holding h) and receiver (k) together hold as much of each thing after a gift of n as before, if the giver
+-- giver (who holds h) and receiver (k) together hold as much of each thing after a gift of n as before, if the giver
 -- has what it gives
 pub gift_keeps_sum : (gift : Gift) (n : ℕ) (h k : HoldingValue) → n ≤ held_of gift h → (t : Thing)
     → unit_amount t (with_held_of gift h (held_of gift h - n)) + unit_amount t (with_held_of gift k (held_of gift k + n))
@@ -186,7 +186,7 @@ give_keeps w a c t x own = by_operands t.order_value.operands
         gift_kept w c t.unit (unit_of a t.faction to) Money n x own.there (λ fit. tt)
     by_operands other = tt
 
--- each order of GIVE or PAY that can be read with the world keeps an early campaign early, its month and its balance,
--- and books nothing; a unit is no worse off unless its own faction wrote the order for it (`IsOrderly`)
+-- In an early campaign an order of GIVE or PAY for a unit of its writer's faction leaves every other unit no worse off.
+-- If it can be read with the world, the campaign stays early, in its month and in balance, and nothing is booked.
 pub give_orderly : IsOrderly give_step IsEarly nothing_remaining moves_nothing IsOwnOrder IsNoWorse
 give_orderly = orderly_by give_keeps (λ w a t n f own other. absurd (other own))

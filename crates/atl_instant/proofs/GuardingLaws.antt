@@ -142,7 +142,7 @@ module _ (c : CampaignValue) (n : ℕ) (u : Unit) (is : get c.units n ≡ Some u
       subst (StepsWell IsSteady nothing_remaining w c) (sym flagged_is)
       (stays_well IsSteady w c flagged (steady-having w c n u guarding.holding is may (guards_kept none steady.guarded) steady) (same_month_by refl) refl (total-labelled w c n u is u.holding.name true))
 
--- setting or clearing the guard flag of unit n, with its row marked, marks all that it changes
+-- setting or clearing the guard flag of unit n, with its row marked, marks all changes and loses no mark
 pub flag_marks : (c d : MarkedCampaign) (n : ℕ) (flag : Bool) → d.value ≡ with_guard c.value n flag
     → d.marks ≡ mark_unit_row c n → MarksChanges c d
 flag_marks c d n flag what marks =
@@ -169,8 +169,8 @@ guard_keeps w a c t x own = by_operands t.order_value.operands
     by_operands (operands.Flag true) = guard_kept w c t.unit x own.there
     by_operands other = tt
 
--- each order of GUARD 1 that can be read with the world keeps a steady campaign steady, its month and its balance, and
--- books nothing; a unit is no worse off unless its own faction wrote the order for it (`IsOrderly`)
+-- In a steady campaign a GUARD 1 for a unit of its writer's faction leaves every other unit no worse off. If it can be
+-- read with the world, the campaign stays steady, in its month and in balance, and nothing is booked.
 pub guard_orderly : IsOrderly guard_step IsSteady nothing_remaining moves_nothing guard_affects IsNoWorse
 guard_orderly =
     orderly_by guard_keeps (λ w a t n f own other. passed t.unit t.order_value.operands (λ sets. other (own, sets)))

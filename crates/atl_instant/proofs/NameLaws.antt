@@ -117,8 +117,8 @@ name_keeps w a c t x own = by_operands t.order_value.operands
     by_operands (operands.Flag false) = flag_cleared (AreOperandsOf w (operands.Flag false)) w c t.unit x own.there
     by_operands other = tt
 
--- each order of NAME or GUARD 0 that can be read with the world keeps an early campaign early, its month and its
--- balance, and books nothing; a unit is no worse off unless its own faction wrote the order for it (`IsOrderly`)
+-- In an early campaign a NAME or GUARD 0 for a unit of its writer's faction leaves every other unit no worse off. If it
+-- can be read with the world, the campaign stays early, in its month and in balance, and nothing is booked.
 pub name_orderly : IsOrderly name_step IsEarly nothing_remaining moves_nothing name_affects IsNoWorse
 name_orderly =
     orderly_by name_keeps

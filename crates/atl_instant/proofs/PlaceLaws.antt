@@ -129,7 +129,7 @@ place_keeps w a c t x own = by_operands t.order_value.operands
         promoted (AreOperandsOf w (operands.Unit to)) w c t.unit x own.there (unit_of a t.faction to)
     by_operands other = tt
 
--- each order of LEAVE, ENTER or PROMOTE that can be read with the world keeps an early campaign early, its month and
--- its balance, and books nothing; a unit is no worse off unless its own faction wrote the order for it (`IsOrderly`)
+-- In an early campaign a LEAVE, ENTER or PROMOTE for a unit of its writer's faction leaves no other unit worse off. If
+-- it can be read with the world, the campaign stays early, in its month and in balance, and nothing is booked.
 pub place_orderly : IsOrderly place_step IsEarly nothing_remaining moves_nothing IsOwnOrder IsNoWorse
 place_orderly = orderly_by place_keeps (λ w a t n f own other. absurd (other own))

@@ -1,8 +1,8 @@
 -- Laws of QUIT: units leave, what they had is booked as gone, and structures get other owners; the campaign stays
 -- steady. A unit is no worse off, unless its faction quits by an order for a unit that was its own as the phase began.
 -- A unit is no worse off (`IsNoWorse`) with the same faction, place, name and guard flag, and no less men, money, goods
--- and days. In the laws e is an entry of the books, s and t are things, h is what a unit holds, and `es` and `xs` list
--- items with their amounts.
+-- and days. In the laws e is an entry of the books, s and t are things, and h is what a unit holds. `es` and `xs` list
+-- items with their amounts, and i is an index within `xs`.
 use Rattle.std.proofs.Common.{◌≡◌, ◌≢◌, ◌==◌, ℕ, ◌+◌, ◌*◌, ◌≤◌, ◌<◌, not, Bool, true, false, cond, List, [], ◌∷◌, length, drop, get_or, Option, Some, None, refl, sym, ap, subst, ◌∙◌, inl, inr, arith}
 use Rattle.std.specs.Prelude.{ℤ, pos, neg_ℤ, ◌+ℤ◌, IfSome, fold, unwrap_or, if◌then◌else◌}
 use Rattle.std.proofs.lemmas.Int.{ints}
@@ -178,7 +178,7 @@ abbrev held_of_thing : HoldingValue → Thing → ℕ
 held_of_thing h s =
     amount_as_thing s People h.men + (amount_as_thing s Money h.money + held_in_items (entries h.items) s)
 
--- the bound on the books for booking as gone all that a unit has
+-- the bound on the books for booking as gone all that a unit has: men as left, its money and each item as lost
 abbrev pub held_moves : HoldingValue → BookBound
 held_moves h =
     both_move (moves_only h.men Left People) (both_move (moves_only h.money Lost Money) (items_bound (entries h.items)))
@@ -514,9 +514,9 @@ remaining_within w c steady e t = by_test (entry_index e == entry_index (loss_en
         none (sum_over (λ (u : Unit). 0) c.units) (length (entries c.units))
         (sum_within (λ (u : Unit). 0) 0 (entries c.units) (each-from_every (λ n u. 0 ≤ 0) c.units (λ n u is. omega arith)))
 
--- Each order of QUIT that can be read with the world keeps a steady campaign steady, its month and its balance, and
--- books no more than the leaving units had. A unit is no worse off unless its own faction wrote the order, for any
--- unit, with the faction's own number (`IsOrderly`).
+-- In a steady campaign a QUIT for a unit of its writer's faction leaves a unit no worse off, unless the unit's faction
+-- wrote it, with its own number. If it can be read with the world, the campaign stays steady, in its month and in
+-- balance, and no more is booked than the leaving units had.
 pub quit_orderly : IsOrderly quit_step IsSteady quit_remaining quit_moves quit_affects IsNoWorse
 quit_orderly = record {
   well = λ w a c t x steady fit own. well w c x steady t.order_value.operands;

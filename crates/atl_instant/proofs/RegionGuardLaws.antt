@@ -160,9 +160,9 @@ module _ (c : CampaignValue) (m : GuardMap) (are : AreRegionGuards c m) (region 
       by_holder None at = sym (all_own (λ u here noted. none_some u.faction (sym at ∙ ap (get m) (sym here) ∙ noted)))
       by_holder (Some holder) at = other_holder holder at (holder == faction) refl
 
--- The fault that the code finds by the map, for a unit that would begin to guard, is that of the definition
--- (`guard_fault`). The code finds whether the unit has no men (`few`), and whether another faction guards its region by
--- the map (`held`).
+-- The fault that the code finds, for a unit that would begin to guard, is that of the definition (`guard_fault`), where
+-- map m has exactly the factions that guard. The code finds whether the unit has no men (`few`), and by the map whether
+-- another faction guards its region (`held`).
 pub found_fault_is : (c : CampaignValue) (m : GuardMap) → AreRegionGuards c m → (u : Unit) (few held : Bool)
     → (u.holding.men == 0) ≡ few → has_other_guard u.faction (get m u.region) ≡ held
     → first_fault ((few, NoMen) ∷ (held, Guarded) ∷ []) ≡ guard_fault c u

@@ -105,7 +105,7 @@ abbrev pub sets_guard : OperandsValue → Bool
 sets_guard (operands.Flag flag) = flag
 sets_guard o = false
 
--- whether the phase of NAME carries out an order of a verb with these operands: GUARD only if it is GUARD 0
+-- whether the phase of NAME carries out an order with these operands, if the verb is its own: false for GUARD 1 alone
 abbrev pub names : Verb → OperandsValue → Bool
 names verbs.Guard o = not (sets_guard o)
 names v o = true

@@ -60,7 +60,7 @@ can_send n u v is =
 
 -- ---- days
 
--- if each skill that a map lists has at most `most` days, so has every skill; one that isn't listed has 0
+-- if each skill that a map lists has from 1 to `most` days, every skill has at most `most`; one that isn't listed has 0
 pub days_within : (all : FinMap nat_cmp ℕ) (most skill : ℕ) → Every (λ s days. (1 ≤ days) × (days ≤ most)) all
     → amount_of all skill ≤ most
 days_within all most skill each = by_option (get all skill) refl
@@ -69,7 +69,7 @@ days_within all most skill each = by_option (get all skill) refl
     by_option None e = omega arith
     by_option (Some days) e = (each skill days e).1
 
--- if men have at most 450 days each, the days that go with n of them are at most 450 for each of the n
+-- if `men` men have together at most 450 days for each, so have the n of them who go, with the days that go with them
 pub going_most : (n men days : ℕ) → days ≤ most_days * men → days_going n men days ≤ most_days * n
 going_most n men days most =
     div-le_of_le-mul men (subst (λ x. days * n ≤ x) (turned most_days men n) (mul-le-mul_right n most))
@@ -100,7 +100,8 @@ rest_within k s n d some most = elim (cases_lt (k * s) d) [
     scaled : (y : ℕ) → y ≤ k * n → y * (s + n) ≤ (k * s + y) * n
     scaled y few = rw (turned k s n y, mul-add y s n) (sum (y * s) ((k * n) * s) (y * n) (mul-le-mul_right s few))
 
--- if men have at most 450 days each, the days that stay when n of them go are at most 450 for each who stays
+-- Suppose that `men` men have together at least one day, and at most 450 for each. Then the days that stay as n of them
+-- go are at most 450 for each who stays.
 pub staying_days_within : (n men days : ℕ) → n ≤ men → 1 ≤ days → days ≤ most_days * men
     → days - days_going n men days ≤ most_days * (men - n)
 staying_days_within n men days fewer some most =
@@ -140,7 +141,7 @@ may_have_fewer w n h fewer may = record {
     had : (a g d : ℕ) → d ≡ a - g → 1 ≤ d → 1 ≤ a
     had a g d is some = omega (arith, is, some)
 
--- A unit with holding h may have (`MayHave`) what it holds after n men of another unit (with holding `other`) came. For
+-- A unit that holds h may have (`MayHave`) what it holds after n men of another unit, which holds `other`, came. For
 -- this both may have what they hold before, and there is room for the men.
 pub may_have_more : (w : WorldValue) (n : ℕ) (other h : HoldingValue) → h.men + n ≤ men_limit → MayHave w other
     → MayHave w h → MayHave w (after_receiving n other h)
@@ -172,8 +173,8 @@ may_have_more w n other h room from may = record {
     sum_of_days_within : (k m n a b : ℕ) → a ≤ k * m → b ≤ k * n → a + b ≤ k * (m + n)
     sum_of_days_within k m n a b f g = rw (mul-add k m n) (omega (arith, f, g))
 
--- sender (with holding h) and receiver (k) together hold as much of each thing after n men went as before, if the
--- sender had n men
+-- sender (who holds h) and receiver (k) together hold as much of each thing after n men went as before, if the sender
+-- had at least n men
 pub transfer_keeps_sum : (n : ℕ) (h k : HoldingValue) → n ≤ h.men → (t : Thing)
     → unit_amount t (after_sending n h) + unit_amount t (after_receiving n h k) ≡ unit_amount t h + unit_amount t k
 transfer_keeps_sum n h k l things.Money = refl
@@ -236,7 +237,7 @@ transfer_keeps w a c t x own = by_operands t.order_value.operands
     by_operands (operands.UnitAndNumber to n) = transfer_kept w c t.unit (unit_of a t.faction to) n x own.there
     by_operands other = tt
 
--- each order of TRANSFER that can be read with the world keeps an early campaign early, its month and its balance, and
--- books nothing; a unit is no worse off unless its own faction wrote the order for it (`IsOrderly`)
+-- In an early campaign a TRANSFER for a unit of its writer's faction leaves every other unit no worse off. If it can be
+-- read with the world, the campaign stays early, in its month and in balance, and nothing is booked.
 pub transfer_orderly : IsOrderly transfer_step IsEarly nothing_remaining moves_nothing IsOwnOrder IsNoWorse
 transfer_orderly = orderly_by transfer_keeps (λ w a t n f own other. absurd (other own))

@@ -37,7 +37,7 @@ is_unit_limit c = nat_le most_units (len c.units) || nat_lt last_unit c.next_uni
 abbrev pub form_fault : CampaignValue → (f n : ℕ) → Option EventFault
 form_fault c f n = first_fault ((not (is_of_faction f (get c.units n)), NotYours) ∷ (is_unit_limit c, UnitLimit) ∷ [])
 
--- a new unit, named `Unit` and its number, without men, money, items, days or guard flag
+-- a new unit, named `Unit` and its number, in the structure (0: none), without men, money, items, days or guard flag
 abbrev pub new_unit : (number faction region structure : ℕ) → Unit
 new_unit number faction region structure = record {
   faction = faction;
@@ -46,8 +46,8 @@ new_unit number faction region structure = record {
   holding = record { name = codes "Unit " ++ decimal number; men = 0; money = 0; guard = false; items = empty; days = empty };
 }
 
--- The campaign with a new unit of faction f, in the region and the structure of unit n, both 0 where n isn't there. It
--- has the next unit number, which rises by one (`with_unit_begun`).
+-- The campaign with a new unit of faction f, in the region and the structure (0: none) of unit n; both are 0 where n
+-- isn't there. It has the next unit number, which rises by one (`with_unit_begun`).
 abbrev pub with_formed_unit : CampaignValue → (f n : ℕ) → CampaignValue
 with_formed_unit c f n = with_unit_begun c (new_unit c.next_unit f (region_of c n) (structure_of_unit c n))
 
@@ -61,8 +61,8 @@ abbrev pub alias_of : OperandsValue → ℕ
 alias_of (operands.Alias alias) = alias
 alias_of order = 0
 
--- the aliases after an order of FORM by faction f: if it is Done, with the number of the new unit, this unit has the
--- alias; otherwise they stay
+-- The aliases after an order of FORM by faction f, with this alias and this outcome. Where it is Done, with the number
+-- of the new unit, this unit has the alias; otherwise they stay.
 abbrev pub aliases_after : Aliases → (f alias : ℕ) → Outcome → Aliases
 aliases_after aliases f alias (Done number) = with_alias aliases f alias number
 aliases_after aliases f alias outcome = aliases

@@ -53,8 +53,8 @@ give_fault gift n itself u (Some v) =
     ∷ (not itself && nat_lt holding_limit (held_of gift v.holding + n), NoRoom)
     ∷ [])
 
--- The campaign after n of the gift went from unit `from` to unit `to`, given as they are before.
--- Nothing changes if both are one unit, or one of them isn't there (None).
+-- The campaign after n of the gift went from unit `from` to unit `to`, given as they are before; a giver that has less
+-- keeps 0. Nothing changes if both are one unit, or one of them isn't there (None).
 abbrev pub after_gift : CampaignValue → (from to : ℕ) → Gift → (n : ℕ) → Option Unit → Option Unit → CampaignValue
 after_gift c from to gift n (Some u) (Some v) =
     let less = with_held_of gift u.holding (held_of gift u.holding - n) in
@@ -63,28 +63,28 @@ after_gift c from to gift n (Some u) (Some v) =
 after_gift c from to gift n giver receiver = c
 
 -- The campaign and the outcome as unit u, of number `from`, gives n of the gift to the receiver, of number `to` (None:
--- it isn't there). With a fault (`give_fault`) nothing changes.
+-- it isn't there). The outcome is Done with n, or a fault (`give_fault`), with which nothing changes.
 abbrev pub give_to : CampaignValue → (from to : ℕ) → Gift → (n : ℕ) → Unit → Option Unit → CampaignValue × Outcome
 give_to c from to gift n u receiver =
     fault_or c (give_fault gift n (to == from) u receiver) (after_gift c from to gift n (Some u) receiver, Done n)
 
--- the effect of an order by which unit `from` gives n of the gift, money or an item, to unit `to`; with a fault nothing
--- changes
+-- the effect, Done with n, of an order by which unit `from` gives n of the gift, money or an item, to unit `to`; with a
+-- fault nothing changes
 unfoldable pub give : (from to : ℕ) → Gift → (n : ℕ) → OrderEffect
 give from to gift n c u = give_to c from to gift n u (get c.units to)
 
--- The effect of an order of faction f for unit `from`, by its operands. GIVE has an amount of an item, and PAY one of
--- money; operands of any other form have no effect (None).
+-- The effect of an order of faction f for unit `from`, by its operands; an alias in them is a unit of f by `aliases`.
+-- GIVE has an amount of an item, and PAY one of money; operands of any other form have no effect (None).
 abbrev pub give_effect : Aliases → (f from : ℕ) → OperandsValue → Option OrderEffect
 give_effect aliases f from (operands.UnitAndGoods to n item) = Some (give from (unit_of aliases f to) (Item item) n)
 give_effect aliases f from (operands.UnitAndNumber to n) = Some (give from (unit_of aliases f to) Money n)
 give_effect aliases f from other = None
 
--- what the phase does at one order: the effect of an order of GIVE or PAY
+-- what the phase does at one order: the effect of GIVE or PAY; None for operands of any other form
 abbrev pub give_step : OrderMeaning
 give_step w aliases t = give_effect aliases t.faction t.unit t.order_value.operands
 
--- the specification of the phase of GIVE and PAY: its orders are carried out one by one, and a unit for which its own
--- faction wrote no GIVE or PAY is no worse off
+-- The specification of the phase of GIVE and PAY: it carries its orders out one by one, and books nothing. A unit for
+-- which no GIVE or PAY of its own faction counts is still there, and no worse off.
 abbrev pub give_spec : PhaseSpec
 give_spec = goes_by_orders give_step is_giving IsOwnOrder IsNoWorse

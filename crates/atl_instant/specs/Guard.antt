@@ -38,7 +38,7 @@ is_guarded_against c region faction = list_any (λ n. guards_against faction (ge
 abbrev pub guard_fault : CampaignValue → Unit → Option EventFault
 guard_fault c u = first_fault ((u.holding.men == 0, NoMen) ∷ (is_guarded_against c u.region u.faction, Guarded) ∷ [])
 
--- the effect of GUARD 1: the guard flag of unit n is set, unless the order has a fault
+-- the effect of GUARD 1, Done with 0: the guard flag of unit n is set; with a fault (`guard_fault`) nothing changes
 unfoldable pub guard : (n : ℕ) → OrderEffect
 guard n c u = fault_or c (guard_fault c u) (with_guard c n true, Done 0)
 
@@ -56,7 +56,7 @@ guard_step w aliases t = guard_effect t.unit t.order_value.operands
 abbrev pub guard_affects : Affects
 guard_affects t number faction = IsOwnOrder t number faction × (t.order_value.operands ≡ operands.Flag true)
 
--- the specification of the phase of GUARD 1: its orders are carried out one by one, and a unit for which its own
--- faction wrote no GUARD 1 is no worse off
+-- The specification of the phase of GUARD 1: it carries its orders out one by one, and books nothing. A unit for which
+-- its own faction wrote no GUARD 1 is still there, and no worse off.
 abbrev pub guard_spec : PhaseSpec
 guard_spec = goes_by_orders guard_step is_guarding guard_affects IsNoWorse

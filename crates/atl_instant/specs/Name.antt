@@ -39,24 +39,24 @@ structure_fault w n ship None = Some NotInside
 structure_fault w n ship (Some s) = first_fault ((not (is_structure_of_kind w ship s), NotInside) ∷ (not (s.owner == n), NotOwner) ∷ [])
 
 -- The campaign and the outcome as unit n gives a name to the ship (where `ship` is true) or the building, of number
--- `inside`, that it is inside. With a fault (`structure_fault`) nothing changes.
+-- `inside`, that it is inside. The outcome is Done with 0, or a fault (`structure_fault`), with which nothing changes.
 abbrev pub structure_name_result : WorldValue → CampaignValue → (n inside : ℕ) → (ship : Bool) → List ℕ → CampaignValue × Outcome
 structure_name_result w c n inside ship name =
     fault_or c (structure_fault w n ship (get c.structures inside)) (with_structure_name c inside name, Done 0)
 
--- The campaign and the outcome after an order of NAME by unit n. By the kind of name, the unit, its faction or, as
--- `structure_name_result` says, the structure `inside`, which the unit is inside (0: none), gets the name.
+-- The campaign and the outcome after an order of NAME by unit n. By the kind of name, the unit or its faction gets it,
+-- Done with 0; or the structure `inside` (0: none), which the unit is inside, as `structure_name_result` says.
 abbrev pub name_result : WorldValue → CampaignValue → (n faction inside : ℕ) → NameKind → List ℕ → CampaignValue × Outcome
 name_result w c n f s kinds.Unit name = (with_unit_name c n name, Done 0)
 name_result w c n f s kinds.Faction name = (with_faction_name c f name, Done 0)
 name_result w c n f s kinds.Building name = structure_name_result w c n s false name
 name_result w c n f s kinds.Ship name = structure_name_result w c n s true name
 
--- the effect of NAME: the unit, its faction or its structure gets the name, unless the order has a fault
+-- the effect of NAME, Done with 0: unit n, its faction or its structure gets the name; with a fault nothing changes
 abbrev pub naming : WorldValue → (n : ℕ) → NameKind → List ℕ → OrderEffect
 naming w n what name c u = name_result w c n u.faction u.structure what name
 
--- the effect of GUARD 0: the guard flag of unit n is cleared
+-- the effect of GUARD 0, Done with 0: the guard flag of unit n is cleared
 abbrev pub leave_guard : (n : ℕ) → OrderEffect
 leave_guard n c u = (with_guard c n false, Done 0)
 
@@ -75,7 +75,7 @@ name_step w a t = name_effect w t.unit t.order_value.operands
 abbrev pub name_affects : Affects
 name_affects t number faction = IsOwnOrder t number faction × (t.order_value.operands ≢ operands.Flag true)
 
--- The specification of the phase of NAME and GUARD 0: its orders are carried out one by one. A unit for which its own
--- faction wrote no NAME or GUARD 0 is no worse off.
+-- The specification of the phase of NAME and GUARD 0: it carries its orders out one by one, and books nothing. A unit
+-- for which its own faction wrote no NAME or GUARD 0 is still there, and no worse off.
 abbrev pub name_spec : PhaseSpec
 name_spec = goes_by_orders name_step is_naming name_affects IsNoWorse

@@ -37,8 +37,8 @@ is_placing verb = false
 abbrev pub leave_fault : WorldValue → Unit → Option EventFault
 leave_fault w u = first_fault ((u.structure == 0, NotInside) ∷ (not (is_land_at w u.region), AtSea) ∷ [])
 
--- the effect of LEAVE: unit n is inside no structure, and one that it owned gets its next owner (`with_place`), unless
--- the order has a fault
+-- the effect of LEAVE, Done with 0: unit n is inside no structure, and one that it owned gets its next owner
+-- (`with_place`); with a fault (`leave_fault`) nothing changes
 unfoldable pub leave : WorldValue → (n : ℕ) → OrderEffect
 leave w n c u = fault_or c (leave_fault w u) (with_place c n u.region 0, Done 0)
 
@@ -51,12 +51,12 @@ is_structure_in region (Some s) = s.region == region
 abbrev pub enter_fault : CampaignValue → (s : ℕ) → Unit → Option EventFault
 enter_fault c s u = first_fault ((not (is_structure_in u.region (get c.structures s)), NotHere) ∷ [])
 
--- The campaign with unit n of this region, which was inside `from`, inside structure s. The structures left and entered
--- get new owners as `with_place` says. Nothing changes if `from` is s.
+-- The campaign with unit n of this region, which was inside `from` (0: none), inside structure s. The structures left
+-- and entered get new owners as `with_place` says. Nothing changes if `from` is s, or n isn't there.
 abbrev pub with_unit_inside : CampaignValue → (n region from s : ℕ) → CampaignValue
 with_unit_inside c n region from s = if from == s then c else with_place c n region s
 
--- the effect of ENTER: unit n is inside structure s, as `with_unit_inside` says, unless the order has a fault
+-- the effect of ENTER, Done with 0: unit n is inside structure s (`with_unit_inside`); with a fault nothing changes
 unfoldable pub enter : (n s : ℕ) → OrderEffect
 enter n s c u = fault_or c (enter_fault c s u) (with_unit_inside c n u.region u.structure s, Done 0)
 
@@ -69,23 +69,23 @@ promote_fault c n to u = first_fault (
     ∷ (not (structure_of_unit c to == u.structure), NotHere)
     ∷ [])
 
--- the effect of PROMOTE: unit `to` owns the structure that unit n is inside, unless the order has a fault
+-- the effect of PROMOTE, Done with 0: unit `to` owns the structure that n is inside; with a fault nothing changes
 unfoldable pub promote : (n to : ℕ) → OrderEffect
 promote n to c u = fault_or c (promote_fault c n to u) (with_owner c u.structure to, Done 0)
 
 -- The effect of an order of faction f for unit n, by the form of its operands. LEAVE has none, ENTER a number, and
--- PROMOTE a unit; operands of any other form have no effect (None).
+-- PROMOTE a unit (of f by `a` if it is an alias); operands of any other form have no effect (None).
 abbrev pub place_effect : WorldValue → Aliases → (f n : ℕ) → OperandsValue → Option OrderEffect
 place_effect w a f n operands.Nothing = Some (leave w n)
 place_effect w a f n (operands.Number s) = Some (enter n s)
 place_effect w a f n (operands.Unit to) = Some (promote n (unit_of a f to))
 place_effect w a f n other = None
 
--- what the phase does at one order: the effect of an order of LEAVE, ENTER or PROMOTE
+-- what the phase does at one order: the effect of LEAVE, ENTER or PROMOTE; None for operands of any other form
 abbrev pub place_step : OrderMeaning
 place_step w a t = place_effect w a t.faction t.unit t.order_value.operands
 
--- The specification of the phase of LEAVE, ENTER and PROMOTE: its orders are carried out one by one. A unit for which
--- its own faction wrote no LEAVE, ENTER or PROMOTE is no worse off.
+-- The specification of the phase of LEAVE, ENTER and PROMOTE: it carries its orders out one by one, and books nothing.
+-- A unit for which its own faction wrote no LEAVE, ENTER or PROMOTE is still there, and no worse off.
 abbrev pub place_spec : PhaseSpec
 place_spec = goes_by_orders place_step is_placing IsOwnOrder IsNoWorse

@@ -66,8 +66,7 @@ after_leaving c n = without_leaver c n (get c.units n)
 abbrev pub quit_fault : (number : ℕ) → Unit → Option EventFault
 quit_fault number u = first_fault ((not (number == u.faction), WrongNumber) ∷ [])
 
--- The effect of QUIT: all units of the unit's faction leave, in the order of their numbers,
--- unless the order has a fault.
+-- the effect of QUIT, Done with 0: all units of the unit's faction leave, by rising number; a fault changes nothing
 unfoldable pub quit : (number : ℕ) → OrderEffect
 quit number c u = fault_or c (quit_fault number u) (fold after_leaving c (numbers_of_faction u.faction c.units), Done 0)
 
@@ -76,7 +75,7 @@ abbrev pub quit_effect : OperandsValue → Option OrderEffect
 quit_effect (operands.Number number) = Some (quit number)
 quit_effect other = None
 
--- what the phase does at one order: the effect of an order of QUIT
+-- what the phase does at one order: the effect of QUIT; None for operands of any other form
 abbrev pub quit_step : OrderMeaning
 quit_step w aliases t = quit_effect t.order_value.operands
 
@@ -105,7 +104,8 @@ quit_keeps w m before after = others_unaffected (QuitsByOwnUnit before) IsNoWors
 abbrev pub quit_moves : BookBound
 quit_moves e t = if entry_index e == entry_index (loss_entry t) then most_moved else 0
 
--- how much of a thing is booked under an entry when a unit leaves with all that it holds
+-- How much of a thing is booked under an entry when a unit leaves with all that it holds. It is what the unit holds of
+-- the thing under the entry for its loss, and 0 under any other entry.
 abbrev pub loss_under : BooksEntry → Thing → HoldingValue → ℕ
 loss_under e t h = if entry_index e == entry_index (loss_entry t) then unit_amount t h else 0
 

@@ -11,7 +11,7 @@ use Rattle.atl_campaign.specs.Campaign.{CampaignValue}
 abbrev pub GuardMap : Type 0
 GuardMap = FinMap nat_cmp ℕ
 
--- the map after a unit's faction is entered under the unit's region; unchanged if the unit doesn't guard
+-- the map with a unit's faction under its region, in place of one that is there; unchanged if the unit doesn't guard
 abbrev pub with_guard_of : GuardMap → Unit → GuardMap
 with_guard_of m u = if guards u then insert m u.region u.faction else m
 

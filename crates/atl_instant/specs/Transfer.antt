@@ -41,7 +41,7 @@ going_of n h s = days_going n h.men (amount_of h.days s)
 abbrev pub staying_of : (n : ℕ) → HoldingValue → (skill : ℕ) → ℕ
 staying_of n h s = amount_of h.days s - going_of n h s
 
--- the days of a skill that a unit with holding h has after n men of a unit with holding `other` came
+-- the days of a skill that a unit that holds h has after n men of a unit that holds `other` came
 abbrev pub raised_of : (n : ℕ) → (other h : HoldingValue) → (skill : ℕ) → ℕ
 raised_of n other h s = amount_of h.days s + going_of n other s
 
@@ -49,7 +49,8 @@ raised_of n other h s = amount_of h.days s + going_of n other s
 abbrev pub after_sending : (n : ℕ) → HoldingValue → HoldingValue
 after_sending n h = record h { men = h.men - n; days = amounts_for (staying_of n h) (keys h.days) }
 
--- what a unit with holding h holds after n men of a unit with holding `other` came, with their part of the days
+-- What a unit that holds h holds after n men of a unit that holds `other` came, with their part of the days. A skill of
+-- which it has 0 days isn't listed.
 abbrev pub after_receiving : (n : ℕ) → (other h : HoldingValue) → HoldingValue
 after_receiving n other h =
     record h { men = h.men + n; days = amounts_for (raised_of n other h) (keys h.days ++ keys other.days) }
@@ -66,8 +67,8 @@ abbrev pub DaysGoWithMen : Type 0
 DaysGoWithMen = (n : ℕ) (other h : HoldingValue) (skill : ℕ) → HaveDaysOf n other h skill
 
 -- The first fault as unit u sends n men to a receiver, None where there is none. It is NotHere where the receiver isn't
--- there (None) or is in another region, NotYours where it is another faction's, NotEnough where u has fewer men, or
--- NoRoom where it would have more than 999,999. Where u sends them to itself (`itself`), there is always room.
+-- there (None) or is in another region, or NotYours where it is another faction's. It is NotEnough where u has fewer
+-- men, or NoRoom where the receiver would have over 999,999. To itself (`itself`) there is always room.
 abbrev pub transfer_fault : (n : ℕ) → (itself : Bool) → Unit → Option Unit → Option EventFault
 transfer_fault n itself u None = Some NotHere
 transfer_fault n itself u (Some v) =
@@ -88,25 +89,26 @@ after_transfer c from to n (Some u) (Some v) =
 after_transfer c from to n sender receiver = c
 
 -- The campaign and the outcome as unit u, of number `from`, sends n men to the receiver, of number `to` (None: it isn't
--- there). With a fault (`transfer_fault`) nothing changes.
+-- there). The outcome is Done with n, or a fault (`transfer_fault`), with which nothing changes.
 abbrev pub transfer_to : CampaignValue → (from to n : ℕ) → Unit → Option Unit → CampaignValue × Outcome
 transfer_to c from to n u receiver =
     fault_or c (transfer_fault n (to == from) u receiver) (after_transfer c from to n (Some u) receiver, Done n)
 
--- the effect of an order by which unit `from` sends n men to unit `to`, unless it has a fault
+-- the effect, Done with n, of an order by which unit `from` sends n men to unit `to`; with a fault nothing changes
 unfoldable pub transfer : (from to n : ℕ) → OrderEffect
 transfer from to n c u = transfer_to c from to n u (get c.units to)
 
--- the effect of an order of TRANSFER of faction f for unit `from`, by its operands; None for operands of any other form
+-- The effect of a TRANSFER of faction f for unit `from`, by its operands; an alias in them is a unit of f by `aliases`.
+-- It is None for operands of any other form.
 abbrev pub transfer_effect : Aliases → (f from : ℕ) → OperandsValue → Option OrderEffect
 transfer_effect aliases f from (operands.UnitAndNumber to n) = Some (transfer from (unit_of aliases f to) n)
 transfer_effect aliases f from other = None
 
--- what the phase does at one order: the effect of an order of TRANSFER
+-- what the phase does at one order: the effect of TRANSFER; None for operands of any other form
 abbrev pub transfer_step : OrderMeaning
 transfer_step w aliases t = transfer_effect aliases t.faction t.unit t.order_value.operands
 
--- the specification of the phase of TRANSFER: its orders are carried out one by one, and a unit for which its own
--- faction wrote no TRANSFER is no worse off
+-- The specification of the phase of TRANSFER: it carries its orders out one by one, and books nothing. A unit for which
+-- its own faction wrote no TRANSFER is still there, and no worse off.
 abbrev pub transfer_spec : PhaseSpec
 transfer_spec = goes_by_orders transfer_step is_transferring IsOwnOrder IsNoWorse

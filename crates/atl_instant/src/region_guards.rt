@@ -28,8 +28,8 @@ impl Model for RegionGuards {
 }
 
 impl RegionGuards {
-    /// The map of which faction guards each region of a campaign, made in one pass over its units.
-    /// AllocError without memory.
+    /// The map of which faction guards each region of a campaign; if several do, that of the guard
+    /// with the highest number. It takes one pass over the units. AllocError without memory.
     pub(crate) fn of_campaign(
         alloc: Global,
         campaign: &Campaign,

@@ -433,7 +433,8 @@ same_selects : (some others : List (List ℕ × List Form)) → some ≡ other_s
 same_selects some others first second First = first
 same_selects some others first second Second = second
 
--- to read by `some` and, in the second format, by `others` is to read all tables of the format but `campaign`
+-- To read by `some` and, in the second format, by `others` is to read all tables of the format but `campaign`. For this
+-- `some` are the SELECTs of those of the first format, and `others` those that the second has besides.
 pub reads_others : {A S : Type 0} (g : Ghosts S) (some others : List (List ℕ × List Form)) (P : A → Type 0) (old new : Held S) (r : Result (Option A) LoadFault) (f : Format)
     → some ≡ other_selects First → some ++ others ≡ other_selects Second
     → ReadsSome g old (selects_by f some others) P r new → ReadsSome g old (other_selects f) P r new

@@ -2,7 +2,7 @@
 -- The faction `f` with the number `n` joins, with its unit `u` under the number `m`; `after` is the campaign then.
 -- `world` is the world text with which the campaign row is put; a row that is there keeps its own.
 -- `start` is the state before the steps of a law, and `one`, `two` and `three` are those after the first, the second
--- and the third.
+-- and the third. Each step is on tables of a campaign, and keeps all other tables (`DoesInside HasTables`).
 use Rattle.std.proofs.Common.{◌≡◌, ◌≢◌, ◌⊎◌, ◌+◌, ℕ, ℤ, pos, List, [], ◌∷◌, map, Some, None, false, refl, sym, ap, ◌∙◌, subst, inl, inr, take, arith}
 use Rattle.std.specs.Prelude.{◌+ℤ◌}
 use Rattle.std.specs.Ordering.{nat_cmp}
@@ -266,7 +266,8 @@ reporting_done n report after start one two three first second third =
     let people = WritesAmount after Joining People in
     inside_then HasTables (Puts report_table 1 (report_row n report)) (DoesBoth money people) start one three first (inside_then HasTables money people one two three second third)
 
--- to put campaign row, faction and unit, and then to write the report and both amounts, writes the join (`WritesJoin`)
+-- To put campaign row, faction and unit, and then to write the report and both amounts, writes the join (`WritesJoin`).
+-- For this all of these are in `after` (`HasArrivalWith`).
 pub joining_done : (n : ℕ) (f : Faction) (m : ℕ) (u : Unit) (report : List ℕ) (after : CampaignValue) (world : List ℕ) (start one two : State)
     → HasArrivalWith after n f m u report
     → DoesInside HasTables (DoesBoth (PutsCampaignRow (campaign_row_of after) world) (DoesBoth (Puts faction_table 1 (row_of_faction n f)) (Puts unit_table 1 (row_of_unit m u)))) start one

@@ -89,7 +89,7 @@ entries_apart {V} (e ∷ es) sorted = (
   entries_apart es (and_parts _ _ sorted).1,
 )
 
--- the rows of a map's entries have different integers in the first column, if `line` puts the number there
+-- the rows that `line` makes of a map's entries have different integers in column 0, if it puts the number there
 pub lines_keys : {V : Type 0} (line : ℕ → V → Row) → ((n : ℕ) (v : V) → column (line n v) 0 ≡ Int (pos n))
     → (m : FinMap nat_cmp V) → HaveDistinctIntegers 0 (rows_in_order line (entries m))
 lines_keys {V} line numbered m = numbers_keys (λ (e : ℕ × V). line e.0 e.1) (λ (e : ℕ × V). pos e.0) 0 (λ e. numbered e.0 e.1) (entries m) (entries_apart (entries m) (in_order m))
@@ -232,8 +232,8 @@ made_placed {p} {A} {part} {stored} {values} is has placed are apart = record {
   apart = λ _. placed_keys is placed apart;
 }
 
--- all parts are made of what was read (`IsMadeOf`), if each part but the campaign row is, and `head` is the only
--- campaign row of `p`
+-- All parts are made of what was read (`IsMadeOf`), if `head` is the only campaign row of `p`. For this all other parts
+-- were read in their order, and each is made so (`IsMadeAs`).
 pub made_of : {head : StoredCampaignRow} {reads : ReadRows} {p : Parts}
     → map (λ read. read.0) reads ≡ other_parts Second → p.campaign ≡ head ∷ [] → AllByRecursion (IsMadeAs p) reads
     → IsMadeOf head reads p
@@ -244,8 +244,8 @@ made_of {head} {reads} {p} parts campaign all = record {
   apart = record { each = λ read there. (all_has (IsMadeAs p) reads read all there).apart };
 }
 
--- a fault of testing the rowids of one part, Store if two are alike, or Memory, is a fault of testing those of all
--- parts (`FailsWithout`)
+-- A fault of testing the rowids of one part that was read, Store if two are alike, or Memory, is also one of testing
+-- those of all parts (`FailsWithout`). `r` is the result of the latter, with the same fault.
 pub part_fault_is_of_all : {A B : Type 0} {part : Part} {stored : RowWithId A → Row} {values : A → Row}
     → IsPlacedAs part stored values → shows_rowids part ≡ true → (placed : List (RowWithId A)) (reads : ReadRows)
     → Has reads (part, map stored placed)

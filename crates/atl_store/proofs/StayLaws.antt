@@ -122,8 +122,8 @@ module _ {S : Type 0} (g : Ghosts S) (text : List ℕ) (c : CampaignValue) (old 
       refused_by_fault f (λ none. never_not_empty e (sym says ∙ none))
       (record { ready = ready; reports_error = λ clean. (e, says, gave clean) })
 
--- if a transaction gave an error and the result's fault is the one made of it, this error is the fault's cause
--- (`IsFaultOfError`)
+-- if a transaction of the statements `own` gave an error, and the result's fault is what `fault_of` makes of it, this
+-- error is the fault's cause (`IsFaultOfError`)
 pub error_of : {S F A : Type 0} (g : Ghosts S) (own : Statements) (fault_of : Error → F) (old new : Held S) (e : Error) (r : Result A F)
     → IsErrAnd r (λ f. f ≡ fault_of e) → Gives g own e old new → IfErr r (IsFaultOfError g own fault_of old new)
 error_of g own fault_of old new e (Ok a) says gave = tt

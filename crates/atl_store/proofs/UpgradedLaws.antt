@@ -95,7 +95,7 @@ module _ {S : Type 0} (g : Ghosts S) (text : List ℕ) (old mid : Held S) (alone
         more = λ just. more (ap (λ (d : Database). d.schema) same.0 ∙ just);
       }
 
--- after two calls, one after the other, the connection is the same one later (`IsLater`)
+-- after two calls in turn, of each of which `Survives` holds, the connection is the same one later (`IsLater`)
 pub later_both : (old mid new : State) (FirstMayLeave SecondMayLeave : Trees → Type 0) → Survives old mid FirstMayLeave
     → Survives mid new SecondMayLeave → IsLater old new
 later_both old mid new FirstMayLeave SecondMayLeave one two =

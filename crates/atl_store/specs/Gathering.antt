@@ -94,8 +94,7 @@ pub record IsOwnRow (f : Format) (rows : List StoredCampaign) (own : StoredCampa
   pub world : world_of_text f own.world ≡ Ok w
 
 -- The result of judging: Ok of a value that fulfils the first condition (`Is`), Damaged by the first rule if the second
--- (`Nothing`) holds, or Memory.
--- It is no other fault.
+-- (`Nothing`) holds, or Memory; no other fault.
 abbrev pub Judges : {A : Type 0} → (A → Type 0) → Type 0 → Result A LoadFault → Type 0
 Judges Is Nothing (Ok a) = Is a
 Judges Is Nothing (Err Memory) = ⊤
@@ -137,11 +136,12 @@ abbrev pub AreRows : Database → Part → List Row → Type 0
 AreRows db part rows =
     HasTablesOf (select_of_part part).since db.schema → IsPermutation ((select_of_part part).in_table db.trees) rows
 
--- for each part that was read, the rows are all rows of the part's table (`AreRows`)
+-- for each part that was read, the rows are all rows of its table, if the schema has the tables for it (`AreRows`)
 abbrev pub AreAllRows : Database → ReadRows → Type 0
 AreAllRows db reads = (read : Part × List Row) → Has reads read → AreRows db read.0 read.1
 
--- for each part that was read: all rows of its table (`AreRows`) if the format has the part, else no row
+-- Of each part of the format that was read, the rows are all rows of its table, if the schema has the tables for it
+-- (`AreRows`). Of any other part no row was read.
 pub record AreOfFormat (f : Format) (db : Database) (reads : ReadRows) : Type 0 where
   pub each : (read : Part × List Row) → Has reads read
       → (Has (parts_in f) read.0 × AreRows db read.0 read.1) ⊎ ((¬ Has (parts_in f) read.0) × (read.1 ≡ []))
@@ -263,7 +263,7 @@ abbrev pub without_ids : Part → List Row → List Row
 without_ids part rows = if shows_rowids part then map (take (column_count part)) rows else rows
 
 -- The parts `p` are put together of what was read: the campaign row `head`, and the rows `reads` of all other parts.
--- In `p` the rows have no rowids. No two rows of a part had the same rowid.
+-- In `p` the rows have no rowids. No two rows of a part that is shown with rowids had the same one.
 pub record IsMadeOf (head : StoredCampaignRow) (reads : ReadRows) (p : Parts) : Type 0 where
   -- all parts but the campaign row were read, in their order
   pub parts : map (λ read. read.0) reads ≡ other_parts Second

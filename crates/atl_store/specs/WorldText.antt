@@ -15,7 +15,7 @@ text_of (Int n) = []
 text_of (Real x) = []
 text_of (Blob b) = []
 
--- the world text in rows of `campaign`: the eighth column of the first row; nothing if there is no row
+-- the world text in rows of `campaign`: the eighth column of the first row; nothing if no row or no text is there
 abbrev pub world_text_in_rows : List Row → List ℕ
 world_text_in_rows [] = []
 world_text_in_rows (r ∷ rows) = text_of (column r 7)

@@ -62,7 +62,8 @@ fn load_idle<S: Alter>(
     Ok((world, campaign))
 }
 
-/// `load` is the case of the second format; its OldFormat is OtherFormat here.
+/// Loads the campaign from tables of this format, as `load` does from those of the second; the
+/// fault for one campaign row of the other format is OtherFormat here.
 pub(crate) fn load_as<S: Alter>(
     alloc: Global,
     conn: &mut Connection<S>,

@@ -81,7 +81,7 @@ module _ (c : CampaignValue) (taught after : TaughtMen) (n given : ℕ) (here : 
 
 -- The men taught so far and those that the places left allow make the same `total` before and after the first unit's
 -- turn. The lesson has `places` places, of which `left` are left. The first unit has `want` untaught men, the others
--- `rest`. It gets `given` of the `left` places.
+-- `rest`. It gets `given`, the lesser of `want` and `left`.
 pub men_so_far : (places left given want rest total : ℕ) → left ≤ places → given ≡ min left want
     → (places - left) + min (want + rest) left ≡ total
     → (places - (left - given)) + min rest (left - given) ≡ total

@@ -31,7 +31,7 @@ skill_of order = None
 abbrev pub can_learn : WorldValue → (skill : ℕ) → HoldingValue → Bool
 can_learn w s h = nat_lt 0 h.men && nat_le (fee_of w s * h.men) h.money
 
--- whether a unit is there, is of the faction that gives the order, and can learn the skill
+-- whether a unit is there (None: it isn't), is of this faction, and can learn the skill
 abbrev pub learns : WorldValue → (skill faction : ℕ) → Option Unit → Bool
 learns w s f unit = option_map_or (λ u. u.faction == f && can_learn w s u.holding) unit false
 

@@ -1,4 +1,5 @@
--- TEACH: people teach units that are learning. See docs/RULES.md, "Learning".
+-- TEACH: people teach units that are learning. See docs/RULES.md, "Learning". The pupils of an order are the units of
+-- its list that are learning in the teacher's region, and the teacher is the unit that the order is for.
 use Rattle.std.specs.Prelude.{◌≤◌, ◌+◌, ◌-◌, ◌*◌, ◌==◌, ◌&&◌, ℕ, min, nat_lt, not, is_some, Bool, true, false, List, [], ◌∷◌, filter, fold, length, map, sum_by, Option, Some, if◌then◌else◌}
 use Rattle.std.specs.Option.{option_map_or}
 use Rattle.std.specs.FinMap.{get}
@@ -46,8 +47,7 @@ level_at c n s = option_map_or (λ u. level_in u.holding s) (get c.units n) 0
 abbrev pub is_pupil : CampaignValue → Learning → (region n : ℕ) → Bool
 is_pupil c learning region n = is_some (get learning n) && region_of c n == region
 
--- the units that an order of TEACH lists and that are learning in the teacher's region, in the order of the list, each
--- as often as it is listed
+-- the pupils of an order of TEACH, in the order of its list, each as often as it is listed
 abbrev pub pupils_of : CampaignValue → Aliases → Learning → Task → List ℕ
 pupils_of c aliases learning t =
     filter (is_pupil c learning (region_of c t.unit))
@@ -89,8 +89,8 @@ lesson c taught places ns =
 
 -- ---- TEACH
 
--- Why the unit of an order can't teach, the first that fits of NotYours, NoMen, NotLearning and CannotTeach; None where
--- it can. Of its `pupils` those in `below` have a lower level than the unit.
+-- Why the unit of an order can't teach; None where it can. It is the first that fits of NotYours, NoMen, NotLearning
+-- (it has no `pupils`) and CannotTeach (none of them is in `below`, those with a lower level than the unit).
 abbrev pub teach_fault : CampaignValue → Task → (pupils below : List ℕ) → Option EventFault
 teach_fault c t pupils below = first_fault (
     (not (is_own c t), NotYours)
@@ -99,8 +99,8 @@ teach_fault c t pupils below = first_fault (
     ∷ (length below == 0, CannotTeach)
     ∷ [])
 
--- How many men of each unit were taught so far after an order of TEACH, and the order's outcome; with a fault it
--- teaches nobody.
+-- How many men of each unit were taught so far after an order of TEACH, and its outcome. The unit has a lesson with 10
+-- places for each of its men, for its pupils of a lower level; with a fault it teaches nobody.
 unfoldable pub teach : CampaignValue → Aliases → Learning → TaughtMen → Task → TaughtMen × Outcome
 teach c aliases learning taught t =
     let pupils = pupils_of c aliases learning t in

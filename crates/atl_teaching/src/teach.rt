@@ -64,7 +64,7 @@ fn is_below(campaign: &Campaign, learning: &Numbered<u32>, teacher: u32, unit: u
 }
 
 /// The units that an order of TEACH lists and that are learning in the teacher's region, in the
-/// order of the list.
+/// order of the list, each as often as it is listed.
 fn pupils_of(
     alloc: Global,
     campaign: &Campaign,
@@ -233,8 +233,8 @@ fn teach(
 }
 
 /// Carries out all orders of TEACH, which are such as can be read with some world, and adds their
-/// events to the month. Returns how many men of each unit were taught. AllocError without memory;
-/// the month may then have some of the events.
+/// events to the month. `learning` has by unit the skill that it learns. Returns how many men of
+/// each unit were taught. AllocError without memory; the month may then have some of the events.
 pub fn teach_all(
     alloc: Global,
     campaign: &Campaign,
