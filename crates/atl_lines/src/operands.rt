@@ -55,8 +55,8 @@ pub fn alias_at(line: &[u8]) -> Result<(u32, &[u8]), LineFault>
     count_at(line, LAST_ALIAS, LineFault::BadAlias)
 }
 
-/// The next words as a unit (a number, or NEW and an alias), and the rest of the line; else
-/// MissingWord, BadNumber or BadAlias.
+/// The next words as a unit, and the rest of the line: a number from 1 to 999,999,999, or NEW in
+/// any case and an alias from 1 to 9,999. The fault is MissingWord, BadNumber or BadAlias.
 #[tactic(auto, unfolding(crate::specs::Operands::unit_at))]
 pub fn unit_at(line: &[u8]) -> Result<(UnitRef, &[u8]), LineFault>
     ensures { Agrees (λ x. (x.0, words x.1.now)) result (unit_at (words line.now)) }

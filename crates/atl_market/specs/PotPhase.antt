@@ -60,7 +60,7 @@ pub record PotMeaning : Type 0 where
   pub paid : (items : FinMap nat_cmp ℕ) → WorldValue → CampaignValue → ℕ × ℕ → CampaignValue
 
 -- A map by unit, such as of wants, from a list of pairs (unit, number); of several pairs for one unit the last counts.
--- There is one at most: of the orders of a phase that its own faction wrote for a unit only one counts.
+-- In a phase no unit has two pairs: of the phase's orders for it that its own faction wrote, only one counts.
 abbrev pub by_unit : List (ℕ × ℕ) → FinMap nat_cmp ℕ
 by_unit es = from_entries (reverse es)
 

@@ -296,8 +296,8 @@ pub record GathersAll (f : Format) {S : Type 0} (g : Ghosts S) (old : Held S) (w
   pub keyed : HasTablesOf f old.schema → (table : Table) → Has (tables_with_rowids f) table
       → AreKeyedByRowid ((state g old).now.trees table.tree)
 
--- After the reads the tables are confirmed as those of the format.
--- The old schema begins with the format's tables, the trees list and obey it (`IsSound`), and `new` is open.
+-- After the reads: the schema of `old` begins with the format's tables, and the trees of `old` list it and obey it
+-- (`IsSound`). The connection `new` is open.
 pub record IsConfirmed (f : Format) (old new : State) : Type 0 where
   pub begins : HasTablesOf f old.now.schema
   pub is_open : IsTrue new.is_open
