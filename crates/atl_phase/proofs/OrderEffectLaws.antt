@@ -128,8 +128,8 @@ carried_cases P effect c faction n other own = by_unit (get c.units n) refl
     by_unit None there = other
     by_unit (Some u) there = by_faction u there (u.faction == faction) refl
 
--- P holds of the campaign after an order, if it holds of the one before, and of the one that the order's effect makes
--- for a unit of its writer's faction
+-- P holds of the campaign after order t, if it holds of the one before, and of the one that t's effect makes where t's
+-- unit is there and of the writer's faction. `step` is the effect; with None the phase passes t over, nothing changes.
 pub ordered_cases : (P : CampaignValue → Type 0) (step : Option OrderEffect) (c : CampaignValue) (t : Task) → P c
     → ((x : Unit) → IsUnitOf c t x → IfSome step (λ effect. P (effect c x).0))
     → P (order_result step c t.faction t.unit).0

@@ -129,7 +129,7 @@ pub error_of : {S F A : Type 0} (g : Ghosts S) (own : Statements) (fault_of : Er
 error_of g own fault_of old new e (Ok a) says gave = tt
 error_of g own fault_of old new e (Err f) says gave = (e, says, gave)
 
--- if the test of the schema finds no table `campaign`, there is none
+-- If the schema that the connection shows now has no table `campaign`, as its test `found` says, `conn` has none.
 pub not_there : {S : Type 0} (g : Ghosts S) (conn : Held S) (schema : Schema) (found : Bool)
     → schema ≡ (state g conn).now.schema → found ≡ has_campaign schema → found ≡ false
     → has_campaign conn.schema ≡ false
