@@ -20,10 +20,10 @@ declare -A package=([cc]=gcc [chromedriver]=chromium-driver [xz]=xz-utils [node]
 # the program that the gate built: the scripts try this one, and compare the release with it
 built=()
 
-# count_gate: runs the gate, shows what it prints, and counts what its last line counts
+# count_gate: runs the gate, shows what it prints and what it cost, and counts what its own last line counts
 count_gate() {
-  rt ci 2>&1 | tee "$log"
-  if [[ $(tail -n 1 "$log") =~ ([0-9]+)\ passed,\ ([0-9]+)\ failed ]]; then
+  python3 -B tests/tools/gate_cost.py rt ci 2>&1 | tee "$log"
+  if [[ $(grep -xE '[0-9]+ passed, [0-9]+ failed' "$log" | tail -n 1) =~ ([0-9]+)\ passed,\ ([0-9]+)\ failed ]]; then
     passed=$((passed + BASH_REMATCH[1])) failed=$((failed + BASH_REMATCH[2]))
     built=("$here/crates/atl_gm/out/atl_gm")
   else
@@ -85,6 +85,8 @@ try http 'curl python3' python3 -B tests/program/month_by_http.py
 try slow python3 python3 -B tests/program/slow.py
 try given_up 'python3 strace' python3 -B tests/program/given_up.py
 try grown python3 python3 -B tests/program/grown.py
+
+try gate_cost python3 python3 -B -m unittest tests/tools/test_gate_cost.py
 
 # pages: what they print, name and count
 try first_hour '' examples/first_hour.sh
