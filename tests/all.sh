@@ -23,7 +23,7 @@ built=()
 # count_gate: runs the gate, shows what it prints and what it cost, and counts what its own last line counts
 count_gate() {
   python3 -B tests/tools/gate_cost.py rt ci 2>&1 | tee "$log"
-  if [[ $(grep -xE '[0-9]+ passed, [0-9]+ failed' "$log" | tail -n 1) =~ ([0-9]+)\ passed,\ ([0-9]+)\ failed ]]; then
+  if [[ $(grep -axE '[0-9]+ passed, [0-9]+ failed' "$log" | tail -n 1) =~ ([0-9]+)\ passed,\ ([0-9]+)\ failed ]]; then
     passed=$((passed + BASH_REMATCH[1])) failed=$((failed + BASH_REMATCH[2]))
     built=("$here/crates/atl_gm/out/atl_gm")
   else
