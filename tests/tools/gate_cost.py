@@ -3,11 +3,11 @@
 
     tests/tools/gate_cost.py rt ci
 
-It first runs four `rt selftest` side by side: one S is the processor seconds of one of them (docs/GATE.md, "What it
-costs"). Then comes what the command prints, and then the lines of costs, each with `cost:` in front. They have the
-processor seconds and the most memory of each crate's proof, tests and edits, the sums in seconds and in S, and the
-longest chain of crates that wait for one another. What rt itself takes isn't in the sums. The command is sampled once a
-second, so each prover is counted up to a second short. The status is the command's."""
+Before and after the command it runs four `rt selftest` side by side: one S is the processor seconds of one of the eight
+(docs/GATE.md, "What it costs"). After what the command prints come the lines of costs, each with `cost:` in front. They
+have the processor seconds and the most memory of each crate's proof, tests and edits, the sums in seconds and in S, and
+the longest chain of crates that wait for one another. What rt itself takes isn't in the sums. The command is sampled
+once a second, so each prover is counted up to a second short. The status is the command's."""
 import os
 import re
 import subprocess
@@ -174,8 +174,9 @@ def main() -> int:
         print(__doc__)
         return 0 if command else 2
     try:
-        unit = one_s()
+        before = one_s()
         status, costs = watched(command)
+        unit = (before + one_s()) / 2
     except FileNotFoundError as error:
         print(f"gate_cost: {error.filename} isn't there")
         return 127
