@@ -189,7 +189,7 @@ region_parts w = each_text (region_part w)
 
 -- ---- the whole
 
--- the text of a report on a view, with the mailing's faulty lines and those of the events that are the faction's own
+-- the text of the report to the faction of a view, with the given faulty lines, and of the events this faction's own
 unfoldable pub report_of : WorldValue → View → List FaultyLine → List Event → List ℕ
 report_of w v faults events = header_line v ▸ orders_part v.faction faults events ▸ region_parts w v.regions
 
