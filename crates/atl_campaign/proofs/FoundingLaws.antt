@@ -16,13 +16,14 @@ use Rattle.atl_records.specs.declared.books.BooksEntry.{BooksEntry}
 use Rattle.atl_records.specs.declared.books.BooksEntry.TheVariants.{Founding}
 use Rattle.atl_records.specs.declared.books.Thing.{Thing}
 use Rattle.atl_records.specs.declared.books.Thing.TheVariants.{Money, People, Item}
-use Rattle.atl_campaign.specs.declared.lists.UnitLists.{UnitLists}
+use Rattle.atl_lists.specs.declared.lists.UnitLists.{UnitLists}
 use Rattle.atl_records.specs.declared.records.Faction.{Faction}
 use Rattle.atl_records.specs.declared.records.Region.{Region}
 use Rattle.atl_records.specs.declared.records.Structure.{Structure}
 use Rattle.atl_records.specs.declared.records.Unit.{Unit}
 use Rattle.atl_records.specs.Books.{amount_in, booked, no_amounts, after_booking, AreBooks, IsWithin}
-use Rattle.atl_campaign.specs.KeptLists.{AreUnitLists, AreListsAndMarksKept}
+use Rattle.atl_lists.specs.Lists.{AreUnitLists}
+use Rattle.atl_campaign.specs.KeptLists.{AreListsAndMarksKept}
 use Rattle.atl_world.specs.Names.{name_ok, pass_ok}
 use Rattle.atl_world.specs.declared.world.RegionPlan.{RegionPlan}
 use Rattle.atl_world.specs.ByNumber.{is_land_at, market_of, size_of}

@@ -12,7 +12,6 @@ pub mod FoundingLaws
 pub mod NumberedNameLaws
 pub mod JoinLaws
 pub mod OwnerLaws
-pub mod ListLaws
 pub mod FromRowLaws
 pub mod HasLaws
 pub mod MapOfRowsLaws

@@ -21,12 +21,12 @@ mod marking;
 mod placing;
 mod setting;
 
-use crate::lists::{UnitLists, numbers_under};
 use crate::regions::Regions;
 use crate::totals::{regions_total, units_total};
 use crate::units::Units;
 pub use assembling::assemble;
 use atl_containers::SlotEntries;
+use atl_lists::{UnitLists, numbers_under};
 use atl_records::{Books, BooksEntry, Faction, Holding, Region, Structure, Thing, Unit};
 use atl_world::{Entries, MarkedMap, Marks, Sequence, Text, let_go};
 pub use founding::founded;

@@ -2,10 +2,8 @@
 #![tactic(auto)]
 
 mod assembly;
-mod balances;
 pub mod campaign;
 mod early;
-mod lists;
 mod regions;
 mod row_values;
 mod rows;
@@ -20,7 +18,6 @@ pub use atl_records::{
     level_in, level_in_any, load,
 };
 pub use atl_rows::{Parts, parts};
-pub use balances::are_balanced;
 pub use campaign::{Campaign, assemble, founded};
 pub use early::good_campaigns_are_early;
 pub use row_values::{as_u16, as_u32, campaign_row_of, is_set};

@@ -4,7 +4,7 @@
 use Rattle.std.proofs.Common.{◌≡◌, ℕ, suc, ◌+◌, ◌<◌, subst, arith}
 use Rattle.std.specs.Prelude.{Ok, Err}
 use Rattle.sqlite_trees.specs.declared.store.Store.{Ghosts}
-use Rattle.atl_service.specs.Service.{ServiceValue}
+use Rattle.atl_commands.specs.Service.{ServiceValue}
 use Rattle.atl_requests.specs.declared.dice.Dice.{Dice}
 use Rattle.atl_http.specs.declared.listening.ListenFault.{ListenFault}
 use Rattle.atl_http.specs.declared.listening.ListenFault.TheVariants.{Net, Memory}

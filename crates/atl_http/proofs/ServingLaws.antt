@@ -5,14 +5,14 @@
 use Rattle.std.proofs.Common.{◌≡◌, refl, sym, subst, inl, inr}
 use Rattle.std.specs.Prelude.{Result, Ok, Err, IfOk}
 use Rattle.std.specs.declared.alloc.AllocError.{AllocError}
-use Rattle.atl_service.specs.declared.command.Answer.{Answer}
-use Rattle.atl_service.specs.Runs.{Runs}
+use Rattle.atl_commands.specs.declared.command.Answer.{Answer}
+use Rattle.atl_commands.specs.Runs.{Runs}
 use Rattle.atl_parsing.specs.declared.problem.Problem.{Problem}
 use Rattle.atl_parsing.specs.declared.request.Request.{Request}
 use Rattle.atl_parsing.specs.declared.request.FinalVerdict.TheVariants.{Refused, Asks}
 use Rattle.atl_http.specs.Answered.{answer_reply}
 use Rattle.sqlite_trees.specs.declared.store.Store.{Ghosts}
-use Rattle.atl_service.specs.Service.{ServiceValue}
+use Rattle.atl_commands.specs.Service.{ServiceValue}
 use Rattle.atl_requests.specs.declared.dice.Dice.{Dice}
 use Rattle.atl_requests.specs.declared.message.Message.{Message}
 use Rattle.atl_parsing.specs.declared.request.FinalVerdict.{FinalVerdict}

@@ -2,11 +2,11 @@
 use Rattle.std.specs.Prelude.{ℕ, List, None}
 use Rattle.atl_parsing.specs.Replies.{Reply, json, plain, no_number, error_body}
 use Rattle.atl_requests.specs.Bodies.{joined_body, mailed_body, month_body, success}
-use Rattle.atl_service.specs.declared.command.Answer.{Answer}
-use Rattle.atl_service.specs.declared.command.Answer.TheVariants.{Joined, Mailed, MonthDone, Text, Refused, Fault}
-use Rattle.atl_service.specs.declared.command.Refusal.{Refusal}
-use Rattle.atl_service.specs.declared.command.Refusal.TheVariants.{NameTaken, Full, NoFaction, WrongPass, Gone, TooLong, WrongFaction, WrongMonth, MonthLimit}
-use Rattle.atl_service.specs.Numbers.{number_of, refusal_name, fault_name}
+use Rattle.atl_commands.specs.declared.command.Answer.{Answer}
+use Rattle.atl_commands.specs.declared.command.Answer.TheVariants.{Joined, Mailed, MonthDone, Text, Refused, Fault}
+use Rattle.atl_commands.specs.declared.command.Refusal.{Refusal}
+use Rattle.atl_commands.specs.declared.command.Refusal.TheVariants.{NameTaken, Full, NoFaction, WrongPass, Gone, TooLong, WrongFaction, WrongMonth, MonthLimit}
+use Rattle.atl_commands.specs.Numbers.{number_of, refusal_name, fault_name}
 
 -- the HTTP status for a refusal; 400 for refusals that aren't listed here
 abbrev pub refusal_status : Refusal → ℕ

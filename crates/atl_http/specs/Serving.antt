@@ -8,11 +8,11 @@ use Rattle.std.specs.declared.alloc.AllocError.{AllocError}
 use Rattle.std.specs.Io.KnownBytes.{Keeps, Appends, Consumes, IsAtEnd}
 use Rattle.sqlite_trees.specs.declared.store.Store.{Ghosts}
 use Rattle.atl_campaign.specs.Campaign.{CampaignValue}
-use Rattle.atl_service.specs.declared.command.Command.{Command}
-use Rattle.atl_service.specs.declared.command.Command.TheVariants as command
-use Rattle.atl_service.specs.declared.command.Answer.{Answer}
-use Rattle.atl_service.specs.Service.{ServiceValue}
-use Rattle.atl_service.specs.Runs.{Runs}
+use Rattle.atl_commands.specs.declared.command.Command.{Command}
+use Rattle.atl_commands.specs.declared.command.Command.TheVariants as command
+use Rattle.atl_commands.specs.declared.command.Answer.{Answer}
+use Rattle.atl_commands.specs.Service.{ServiceValue}
+use Rattle.atl_commands.specs.Runs.{Runs}
 use Rattle.atl_requests.specs.declared.dice.Dice.{Dice}
 use Rattle.atl_requests.specs.declared.message.Message.{Message}
 use Rattle.atl_requests.specs.declared.io.HttpFault.{HttpFault}

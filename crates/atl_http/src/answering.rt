@@ -3,9 +3,9 @@ ghost use Rattle.std.specs.Prelude.{◌≡◌, IfOk};
 ghost use Rattle.atl_requests.specs.Io.{MatchesReply};
 ghost use Rattle.atl_http.specs.Answered.{refusal_status, answer_reply};
 
+use atl_commands::{Answer, Fault, Refusal};
 use atl_requests::bodies::{joined_body, mailed_body, month_body, success_message};
 use atl_requests::message::{JSON, Message, NO_NUMBER, PLAIN, error_message};
-use atl_service::{Answer, Fault, Refusal};
 use http::StatusCode;
 use std::alloc::{AllocError, Global};
 

@@ -2,9 +2,9 @@
 ghost use Rattle.atl_http.specs.Listening.{ServesConnection, ServesEach};
 
 use crate::serving::serve_peer;
+use atl_commands::Service;
 use atl_requests::patience::Peer;
 use atl_requests::{Dice, HttpFault};
-use atl_service::Service;
 use sqlite::Alter;
 use std::alloc::Global;
 use std::io::ErrorKind;

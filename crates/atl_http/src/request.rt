@@ -2,9 +2,9 @@
 ghost use Rattle.std.specs.Prelude.{◌≡◌, IfOk};
 ghost use Rattle.atl_http.specs.Serving.{command_of};
 
+use atl_commands::Command;
 use atl_requests::Dice;
 pub use atl_requests::request::{FinalVerdict, Progress, Request, Verdict};
-use atl_service::Command;
 use atl_world::Sequence;
 use std::alloc::{AllocError, Global};
 

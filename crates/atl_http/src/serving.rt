@@ -2,17 +2,17 @@
 ghost use Rattle.std.specs.Prelude.{◌≡◌, IfOk, OnErr};
 ghost use Rattle.std.specs.FinMap.{len};
 ghost use Rattle.atl_requests.specs.Calls.{no_reads, no_writes, EndsBy};
-ghost use Rattle.atl_service.specs.Runs.{Runs};
+ghost use Rattle.atl_commands.specs.Runs.{Runs};
 ghost use Rattle.atl_http.specs.Serving.{command_in, Serves, RepliesWith};
 ghost use Rattle.atl_http.specs.Listening.{IsServed};
 
 use crate::answering::answer_message;
 use crate::request::IntoCommand;
+use atl_commands::{Answer, Service};
 use atl_requests::calls::{ReadCalls, WriteCalls};
 use atl_requests::io::{receive, send};
 use atl_requests::message::{Message, problem_message};
 use atl_requests::{Dice, FinalVerdict, HttpFault, Request};
-use atl_service::{Answer, Service};
 use sqlite::Alter;
 use std::alloc::{AllocError, Global};
 use std::io::{Read, Write};

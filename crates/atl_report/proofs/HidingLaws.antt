@@ -21,7 +21,7 @@ use Rattle.atl_world.specs.Every.{EachEntry}
 use Rattle.atl_world.proofs.EveryLaws.{each-from_every}
 use Rattle.atl_campaign.specs.Good.{guards}
 use Rattle.atl_campaign.specs.Campaign.{CampaignValue, numbers_in_region, numbers_of_faction}
-use Rattle.atl_campaign.specs.KeptLists.{list_of}
+use Rattle.atl_lists.specs.Lists.{list_of}
 use Rattle.atl_campaign.proofs.NumberListLaws.{IsListed, passing_listed, listed_passing}
 use Rattle.atl_records.specs.Levels.{level_in_any}
 use Rattle.atl_sight.specs.declared.watch.Watch.{Watch}

@@ -13,7 +13,7 @@ use Rattle.atl_world.proofs.SumLaws.{chosen-cons}
 use Rattle.atl_world.proofs.GeneralLaws.{is_equal, key_equality_is_symmetric}
 use Rattle.atl_records.specs.declared.records.Structure.{Structure}
 use Rattle.atl_records.specs.declared.records.Unit.{Unit}
-use Rattle.atl_campaign.specs.KeptLists.{list_of}
+use Rattle.atl_lists.specs.Lists.{list_of}
 use Rattle.atl_report.specs.Sites.{with_listed}
 use Rattle.atl_report.specs.Gathering.{with_keyed, with_all_keyed}
 

@@ -8,7 +8,7 @@ use Rattle.atl_records.specs.declared.records.Structure.{Structure}
 use Rattle.atl_records.specs.declared.records.Unit.{Unit}
 use Rattle.atl_world.specs.Every.{Every}
 use Rattle.atl_campaign.specs.Campaign.{CampaignValue, numbers_in_region}
-use Rattle.atl_campaign.specs.KeptLists.{list_of}
+use Rattle.atl_lists.specs.Lists.{list_of}
 use Rattle.atl_report.specs.Sight.{structures_in}
 use Rattle.atl_sight.specs.Watching.{hiding_level}
 use Rattle.atl_report.specs.declared.sites.RegionLists.{RegionLists}

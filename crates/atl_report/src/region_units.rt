@@ -3,7 +3,7 @@
 ghost use Rattle.std.specs.Prelude.{◌≡◌, ℕ, IfOk, OnOk, filter, map};
 ghost use Rattle.std.specs.FinMap.{get, entries};
 ghost use Rattle.atl_world.specs.Every.{Every};
-ghost use Rattle.atl_campaign.specs.KeptLists.{list_of};
+ghost use Rattle.atl_lists.specs.Lists.{list_of};
 ghost use Rattle.atl_report.specs.Gathering.{with_numbers, numbers_seen};
 ghost use Rattle.atl_report.specs.Sites.{AreLevels};
 ghost use Rattle.atl_sight.specs.Watching.{is_seen_there, own_units_in};

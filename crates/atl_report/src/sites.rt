@@ -3,7 +3,7 @@
 ghost use Rattle.std.specs.Prelude.{◌≡◌, IfOk, OnOk};
 ghost use Rattle.atl_world.specs.Worlds.{WorldValue};
 ghost use Rattle.atl_campaign.specs.Campaign.{CampaignValue};
-ghost use Rattle.atl_campaign.specs.KeptLists.{list_of};
+ghost use Rattle.atl_lists.specs.Lists.{list_of};
 ghost use Rattle.atl_report.specs.Sight.{structures_in};
 ghost use Rattle.atl_report.specs.Sites.{AreSites, AreRegionLists, with_listed};
 

@@ -23,13 +23,13 @@ use Rattle.atl_sql.specs.Causes.{IsFaultOfError}
 use Rattle.atl_store.specs.Faults.{create_fault}
 use Rattle.atl_writing.specs.OwnStatements.{OfFounding}
 use Rattle.atl_sql.proofs.CauseLaws.{gives_among}
-use Rattle.atl_service.specs.Causes.{OfFoundingBy}
-use Rattle.atl_service.specs.Service.{IsConsistent}
-use Rattle.atl_service.specs.declared.command.Cause.{Cause}
-use Rattle.atl_service.specs.declared.command.Cause.TheVariants.{World as BadWorld, BadPassText}
-use Rattle.atl_service.specs.declared.command.Cause.TheVariants as none
+use Rattle.atl_commands.specs.Causes.{OfFoundingBy}
+use Rattle.atl_commands.specs.Service.{IsConsistent}
+use Rattle.atl_service.specs.declared.cause.Cause.{Cause}
+use Rattle.atl_service.specs.declared.cause.Cause.TheVariants.{World as BadWorld, BadPassText}
+use Rattle.atl_service.specs.declared.cause.Cause.TheVariants as none
 use Rattle.atl_service.specs.Found.{Founds, FailsToFound, LeavesByCause, RefusesFounding, MayBeCause, Prepares, RefusesToWrite, cause_of_creation_fault}
-use Rattle.atl_service.proofs.CauseLaws.{creation_failed, creation_lacked}
+use Rattle.atl_commands.proofs.CauseLaws.{creation_failed, creation_lacked}
 
 module _ {S : Type 0} (g : Ghosts S) where
   later_itself : (conn : Held S) → IsLater (state g conn) (state g conn)

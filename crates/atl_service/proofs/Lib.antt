@@ -1,12 +1,4 @@
-pub mod CauseLaws
-pub mod AnswerLaws
 pub mod FoundServiceLaws
-pub mod ListLaws
 pub mod OpenLaws
 pub mod UpgradeLaws
-pub mod RunLaws
-pub mod JoinStepLaws
-pub mod CloseLaws
-pub mod PostingLaws
-pub mod SortLaws
 pub mod FileLaws

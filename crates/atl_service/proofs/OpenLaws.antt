@@ -18,7 +18,7 @@ use Rattle.atl_store.specs.WorldText.{world_text}
 use Rattle.atl_store.proofs.AlikeLaws.{holds_one, one_text}
 use Rattle.atl_store.proofs.OneWorldLaws.{holds_one_world}
 use Rattle.atl_store.proofs.StayLaws.{survives_is_later, unchanged_itself}
-use Rattle.atl_service.specs.Service.{IsService}
+use Rattle.atl_commands.specs.Service.{IsService}
 use Rattle.atl_service.specs.Opened.{ComesBack, Opens, RefusesOpening, cause_of_loading_fault}
 use Rattle.sqlite.specs.State.{HasCleanDisk}
 

@@ -10,7 +10,7 @@ use Rattle.atl_campaign.specs.Campaign.{MarkedCampaign}
 use Rattle.atl_store.specs.Keeps.{IsLater}
 use Rattle.atl_store.specs.Upgrading.{Upgrades}
 use Rattle.atl_store.proofs.WorldTextLaws.{world_text_is}
-use Rattle.atl_service.specs.Service.{IsService}
+use Rattle.atl_commands.specs.Service.{IsService}
 use Rattle.atl_service.specs.Upgraded.{UpgradesTo}
 use Rattle.atl_service.proofs.FoundServiceLaws.{founded_consistent}
 

@@ -16,11 +16,11 @@ use Rattle.atl_sql.specs.Making.{has_campaign}
 use Rattle.atl_store.specs.Keeps.{HoldsCampaign, IsLater, IsReadyToCreate, ChangesNothing, MayLeaveCampaign}
 use Rattle.atl_store.specs.declared.fault.CreateFault.{CreateFault}
 use Rattle.atl_store.specs.declared.fault.CreateFault.TheVariants as create
-use Rattle.atl_service.specs.declared.command.Cause.{Cause}
-use Rattle.atl_service.specs.declared.command.Cause.TheVariants.{World as BadWorld, BadPassText, NotEmpty, NotACampaign, OldFormat, NotOld, Damaged, Differs, Store, Memory}
+use Rattle.atl_service.specs.declared.cause.Cause.{Cause}
+use Rattle.atl_service.specs.declared.cause.Cause.TheVariants.{World as BadWorld, BadPassText, NotEmpty, NotACampaign, OldFormat, NotOld, Damaged, Differs, Store, Memory}
 use Rattle.atl_descriptions.specs.Statements.{Statements}
-use Rattle.atl_service.specs.Causes.{OfFoundingBy, GivesOtherError, LacksMemory}
-use Rattle.atl_service.specs.Service.{ServiceValue, text_in}
+use Rattle.atl_commands.specs.Causes.{OfFoundingBy, GivesOtherError, LacksMemory}
+use Rattle.atl_commands.specs.Service.{ServiceValue, text_in}
 
 -- A campaign was founded: the service is open with the text's world and the founded campaign, and, if the disk is
 -- clean, its tables hold the text and this campaign. There was no table `campaign`.

@@ -1,14 +1,3 @@
-pub mod Numbers
-pub mod Closing
-pub mod Step
-pub mod Left
-pub mod Service
-pub mod Causes
-pub mod Answering
-pub mod Sorting
-pub mod Months
-pub mod Runs
-pub mod Posting
 pub mod Found
 pub mod Opened
 pub mod Upgraded

@@ -13,9 +13,9 @@ use Rattle.atl_store.specs.Keeps.{HoldsCampaign, IsLater}
 use Rattle.atl_store.specs.Loading.{Loads, RefusesToLoad, LeavesAlone}
 use Rattle.atl_store.specs.declared.fault.StoreFault.{StoreFault}
 use Rattle.atl_store.specs.declared.fault.StoreFault.TheVariants as load
-use Rattle.atl_service.specs.declared.command.Cause.{Cause}
-use Rattle.atl_service.specs.declared.command.Cause.TheVariants.{NotACampaign, OldFormat, Damaged, Store, Memory}
-use Rattle.atl_service.specs.Service.{ServiceValue, text_in}
+use Rattle.atl_service.specs.declared.cause.Cause.{Cause}
+use Rattle.atl_service.specs.declared.cause.Cause.TheVariants.{NotACampaign, OldFormat, Damaged, Store, Memory}
+use Rattle.atl_commands.specs.Service.{ServiceValue, text_in}
 
 -- A campaign was opened: the service has the campaign that was loaded, and it is good. If the disk is clean, the tables
 -- hold this campaign and a text of the service's world, and nothing is changed.

@@ -11,9 +11,9 @@ use Rattle.atl_store.specs.Keeps.{IsLater}
 use Rattle.atl_store.specs.Upgrading.{Upgrades, RefusesToUpgrade}
 use Rattle.atl_store.specs.declared.fault.UpgradeFault.{UpgradeFault}
 use Rattle.atl_store.specs.declared.fault.UpgradeFault.TheVariants as upgrade
-use Rattle.atl_service.specs.declared.command.Cause.{Cause}
-use Rattle.atl_service.specs.declared.command.Cause.TheVariants.{World, NotACampaign, NotOld, Damaged, Differs, Store, Memory}
-use Rattle.atl_service.specs.Service.{ServiceValue, text_in}
+use Rattle.atl_service.specs.declared.cause.Cause.{Cause}
+use Rattle.atl_service.specs.declared.cause.Cause.TheVariants.{World, NotACampaign, NotOld, Damaged, Differs, Store, Memory}
+use Rattle.atl_commands.specs.Service.{ServiceValue, text_in}
 
 -- A file was upgraded: the service is open with the new text's world and a campaign with empty stocks. On a clean disk
 -- it is the campaign that the tables held, and they now hold it with the new text. A disk that isn't clean stays so, no

@@ -6,7 +6,7 @@ ghost use Rattle.sqlite.specs.State.{HasCleanDisk};
 ghost use Rattle.sqlite_disk.specs.Modelled.{calls_of, start_of};
 ghost use Rattle.atl_service.specs.Files.{HasCollided};
 
-use crate::service::Service;
+use atl_commands::Service;
 use sqlite::{FileStore, Start};
 use sqlite_disk::{Calls, Modelled};
 

@@ -5,7 +5,7 @@ ghost use Rattle.atl_records.specs.Limits.{most_things};
 ghost use Rattle.atl_campaign.specs.Good.{IsGood};
 ghost use Rattle.atl_service.specs.Found.{Prepares, MayBeCause};
 
-use crate::command::Cause;
+use crate::cause::Cause;
 use atl_campaign::{Campaign, founded};
 use atl_tables::read_world;
 use atl_world::{World, pass_ok};

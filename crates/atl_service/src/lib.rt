@@ -1,18 +1,15 @@
-//! Founds, opens and upgrades campaigns in a database, carries out their commands (join, mail,
-//! close, report), and stores what the commands change.
+//! Founds, opens and upgrades campaigns in a database, for a service that carries out their
+//! commands (atl_commands, of which all is exported here again).
 #![tactic(auto)]
 
-mod answering;
-mod closing;
-pub mod command;
+pub mod cause;
 pub mod files;
 mod founding;
-pub mod posting;
-mod reporting;
 pub mod service;
-mod sorting;
 
-pub use command::{Answer, Cause, Command, Fault, Refusal, Refused};
+pub use atl_commands::{
+    Answer, Command, Fault, Refusal, Service, command, only_the_last_mail_counts, posting,
+};
+pub use cause::{Cause, Refused};
 pub use files::a_shielded_disk_is_clean;
-pub use posting::only_the_last_mail_counts;
-pub use service::{Service, found, open, upgrade};
+pub use service::{found, open, upgrade};

@@ -20,8 +20,9 @@ use crate::rules::{
     are_afloat, are_days, are_gone_iff_unitless, are_guarded, are_known, are_mailings,
     are_numbered, are_owned, are_reported,
 };
+use atl_balances::are_balanced;
 use atl_campaign::parts::{Parts, StoredBooks};
-use atl_campaign::{Campaign, are_balanced, as_u32, assemble};
+use atl_campaign::{Campaign, as_u32, assemble};
 use atl_records::{ENTRY_COUNT, FIRST_ENTRY_COUNT, FIRST_ITEM};
 use atl_world::{Format, World};
 use std::alloc::Global;

@@ -6,7 +6,7 @@
 ghost use Rattle.std.specs.Prelude.{◌≡◌, IfOk, true};
 ghost use Rattle.std.specs.List.{list_all};
 ghost use Rattle.atl_world.specs.Names.{name_ok};
-ghost use Rattle.atl_campaign.specs.KeptLists.{AreUnitLists};
+ghost use Rattle.atl_lists.specs.Lists.{AreUnitLists};
 ghost use Rattle.atl_campaign.specs.Assembling.{bare_unit};
 ghost use Rattle.atl_campaign.specs.FromRows.{as_u32, by_number, unit_of};
 ghost use Rattle.atl_campaign.specs.Roster.{unmarked_units};
@@ -14,10 +14,10 @@ ghost use Rattle.atl_campaign.specs.RowRules.{unit_in_range, has_in_range};
 
 use super::goods::put_things;
 use super::records::moved_name;
-use crate::lists::{UnitLists, list_keys_of};
 use crate::row_values::{as_u32, is_set};
 use crate::units::Units;
 use atl_containers::Arena;
+use atl_lists::{UnitLists, list_keys_of};
 use atl_records::{Holding, Unit};
 use atl_rows::parts::{StoredHas, StoredUnit};
 use atl_world::{Numbered, Sequence};

@@ -3,9 +3,9 @@ ghost use Rattle.std.specs.Prelude.{◌≡◌};
 ghost use Rattle.atl_campaign.specs.Campaign.{blank};
 
 use super::Campaign;
-use crate::lists::UnitLists;
 use crate::regions::Regions;
 use crate::units::Units;
+use atl_lists::UnitLists;
 use atl_records::Books;
 use atl_world::{MarkedMap, Marks, Text};
 use std::alloc::Global;

@@ -7,7 +7,7 @@ ghost use Rattle.atl_campaign.specs.Marking.{mark_unit_added, mark_unit_begun, m
 ghost use Rattle.atl_campaign.specs.Campaign.{with_unit, with_unit_begun, with_structure_begun};
 
 use super::Campaign;
-use crate::lists::list_keys_of;
+use atl_lists::list_keys_of;
 use atl_records::{Structure, Unit};
 use std::alloc::AllocError;
 

@@ -8,7 +8,7 @@ ghost use Rattle.atl_campaign.specs.Marking.{handed_marked, put_marked, place_ma
 ghost use Rattle.atl_campaign.specs.Owners.{first_other, heir, owner_after, is_owned_by, with_place, without_unit};
 
 use super::Campaign;
-use crate::lists::{ListKeys, list_keys_of};
+use atl_lists::{ListKeys, list_keys_of};
 use std::alloc::AllocError;
 
 /// 0 where there is no other.

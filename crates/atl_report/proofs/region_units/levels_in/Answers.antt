@@ -1,7 +1,7 @@
 use Rattle.std.proofs.Common.{◌≡◌, [], drop, ap, sym, ◌∙◌}
 use Rattle.std.proofs.lemmas.List.{drop_all}
 use Rattle.atl_campaign.specs.Campaign.{numbers_in_region}
-use Rattle.atl_campaign.specs.KeptLists.{list_of}
+use Rattle.atl_lists.specs.Lists.{list_of}
 use Rattle.atl_report.specs.Gathering.{with_all_keyed}
 use Rattle.atl_sight.specs.Watching.{hiding_level}
 use Rattle.atl_report.proofs.SiteLaws.{listed_by_key}

@@ -2,7 +2,7 @@ use Rattle.std.proofs.Common.{◌≡◌, ℕ, [], drop, ap, sym, ◌∙◌}
 use Rattle.std.proofs.lemmas.List.{drop_all}
 use Rattle.atl_records.specs.declared.records.Unit.{Unit}
 use Rattle.atl_campaign.specs.Campaign.{numbers_of_faction}
-use Rattle.atl_campaign.specs.KeptLists.{list_of}
+use Rattle.atl_lists.specs.Lists.{list_of}
 use Rattle.atl_report.specs.Gathering.{with_all_keyed}
 use Rattle.atl_report.proofs.SiteLaws.{listed_by_key}
 use Rattle.atl_report.proofs.region_units.own_by_region.Goals as goal

@@ -2,7 +2,7 @@ use Rattle.std.proofs.Common.{rules, ◌≡◌, ◌==◌, ◌++◌, ◌∷◌, �
 use Rattle.std.specs.FinMap.{entries}
 use Rattle.atl_world.specs.Sums.{numbers_among}
 use Rattle.atl_records.specs.declared.records.Structure.{Structure}
-use Rattle.atl_campaign.specs.KeptLists.{list_of}
+use Rattle.atl_lists.specs.Lists.{list_of}
 use Rattle.atl_report.specs.Sites.{with_listed}
 use Rattle.atl_report.proofs.SiteLaws.{no_lists, site_goes_on}
 use Rattle.atl_report.proofs.sites.sites_of.Goals as goal

@@ -1,6 +1,6 @@
 use Rattle.std.proofs.Common.{◌≡◌, ◌==◌, ◌++◌, ℕ}
 use Rattle.atl_world.specs.Sums.{numbers_among}
-use Rattle.atl_campaign.specs.KeptLists.{list_of}
+use Rattle.atl_lists.specs.Lists.{list_of}
 use Rattle.atl_report.specs.Sight.{structures_in}
 use Rattle.atl_report.proofs.sites.sites_of.Given as goal
 

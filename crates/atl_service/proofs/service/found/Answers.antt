@@ -1,6 +1,6 @@
 use Rattle.std.proofs.Common.{Some, true, sym, ap, subst}
 use Rattle.atl_campaign.specs.Campaign.{CampaignValue, MarkedCampaign}
-use Rattle.atl_service.specs.Service.{IsConsistent}
+use Rattle.atl_commands.specs.Service.{IsConsistent}
 use Rattle.atl_service.specs.Found.{Founds}
 use Rattle.atl_service.proofs.FoundServiceLaws.{refuses_unchanged, founded_consistent, founds_on, refused_by_store}
 use Rattle.atl_service.proofs.service.found.Goals as goal

@@ -4,7 +4,7 @@ use Rattle.std.specs.FinMap.{FinMap, entries, empty, insert, same_entries_map}
 use Rattle.std.proofs.lemmas.List.{append-nil, append_assoc}
 use Rattle.atl_world.proofs.Maps.{entries-empty}
 use Rattle.atl_world.proofs.MappedLaws.{insert_last}
-use Rattle.atl_campaign.specs.KeptLists.{AreUnitLists}
+use Rattle.atl_lists.specs.Lists.{AreUnitLists}
 use Rattle.atl_records.specs.declared.records.Unit.{Unit}
 use Rattle.atl_world.proofs.SortedMapLaws.{comes_new}
 use Rattle.atl_campaign.proofs.assembly.units.lists_of.Goals as goal

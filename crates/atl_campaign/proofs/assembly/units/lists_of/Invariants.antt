@@ -1,7 +1,7 @@
 use Rattle.std.proofs.Common.{◌≡◌, ◌++◌}
 use Rattle.std.specs.Ordering.{nat_cmp}
 use Rattle.std.specs.FinMap.{FinMap, entries}
-use Rattle.atl_campaign.specs.KeptLists.{AreUnitLists}
+use Rattle.atl_lists.specs.Lists.{AreUnitLists}
 use Rattle.atl_records.specs.declared.records.Unit.{Unit}
 use Rattle.atl_campaign.proofs.assembly.units.lists_of.Given as goal
 

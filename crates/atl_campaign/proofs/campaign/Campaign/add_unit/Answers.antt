@@ -1,6 +1,6 @@
 use Rattle.std.proofs.Common.{◌≡◌, None, sym}
 use Rattle.std.specs.FinMap.{get}
-use Rattle.atl_campaign.proofs.ListLaws.{AreUnitLists-back}
+use Rattle.atl_lists.proofs.ListLaws.{AreUnitLists-back}
 use Rattle.atl_campaign.proofs.campaign.Campaign.add_unit.Goals as goal
 
 pub invariant_of-self-in-Ok : goal.invariant_of-self-in-Ok

@@ -1,6 +1,6 @@
 use Rattle.std.proofs.Common.{◌≡◌, Some, sym, ap}
 use Rattle.std.specs.FinMap.{get}
-use Rattle.atl_campaign.specs.declared.lists.ListKeys.{ListKeys}
+use Rattle.atl_lists.specs.declared.lists.ListKeys.{ListKeys}
 use Rattle.atl_campaign.proofs.campaign.Campaign.put.Goals as goal
 
 pub invariant_of-self : goal.invariant_of-self

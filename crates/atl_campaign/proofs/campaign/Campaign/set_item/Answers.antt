@@ -3,7 +3,7 @@ use Rattle.std.proofs.lemmas.Result.{on_err_weaker, on_ok_weaker}
 use Rattle.atl_records.specs.declared.records.Unit.{Unit}
 use Rattle.atl_records.specs.Holdings.{with_amount_of}
 use Rattle.atl_campaign.specs.Roster.{Roster, item_marked_at}
-use Rattle.atl_campaign.proofs.ListLaws.{AreUnitLists-set}
+use Rattle.atl_lists.proofs.ListLaws.{AreUnitLists-set}
 use Rattle.atl_campaign.proofs.campaign.Campaign.set_item.Goals as goal
 
 same_values : (r s : Roster) (n item amount : ℕ) → (s ≡ r) ⊎ (s ≡ item_marked_at r n item amount) → s.values ≡ r.values

@@ -1,6 +1,6 @@
 use Rattle.std.proofs.Common.{refl}
 use Rattle.atl_records.specs.declared.records.Unit.{Unit}
-use Rattle.atl_campaign.proofs.ListLaws.{AreUnitLists-changed}
+use Rattle.atl_lists.proofs.ListLaws.{AreUnitLists-changed}
 use Rattle.atl_campaign.proofs.campaign.Campaign.set_unit_name.Goals as goal
 
 pub invariant_of-self : goal.invariant_of-self

@@ -1,5 +1,5 @@
 use Rattle.std.proofs.Common.{sym, refl}
-use Rattle.atl_campaign.proofs.ListLaws.{AreUnitLists-kept}
+use Rattle.atl_lists.proofs.ListLaws.{AreUnitLists-kept}
 use Rattle.atl_campaign.proofs.campaign.Campaign.unit_mut.Goals as goal
 
 pub invariant_of-self-lent : goal.invariant_of-self-lent

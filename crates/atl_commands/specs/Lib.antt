@@ -1,0 +1,11 @@
+pub mod Numbers
+pub mod Closing
+pub mod Step
+pub mod Left
+pub mod Service
+pub mod Causes
+pub mod Answering
+pub mod Sorting
+pub mod Months
+pub mod Runs
+pub mod Posting

@@ -1,5 +1,0 @@
-use Rattle.atl_service.proofs.PostingLaws as laws
-use Rattle.atl_service.proofs.posting.only_the_last_mail_counts.Goals as goal
-
-pub returns : goal.returns
-returns c = laws.only_the_last_mail_counts
