@@ -37,7 +37,7 @@ fn are_items_balanced(world: &World, campaign: &Campaign) -> bool
     true
 }
 
-/// Of money too.
+/// Whether the books balance for money and for people.
 fn are_people_balanced(campaign: &Campaign) -> bool
     requires few { IsCountable campaign.now.value }
     requires there { 1 < campaign.now.value.books.things }

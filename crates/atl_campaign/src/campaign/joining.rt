@@ -92,6 +92,7 @@ fn make_faction(alloc: Global, number: u32, name: &[u8], pass: &[u8]) -> Result<
     })
 }
 
+/// Books one man and his money under joining, where the amounts have to leave room for them.
 fn book_joining(books: &mut Books, money: u32)
     requires things { 2 ≤ books.old.things }
     requires money { LeavesRoomForJoining (amount_in books.old Joining Money) }
@@ -154,8 +155,9 @@ impl Campaign {
         }
     }
 
-    /// Adds the faction and its unit, booked and marked, and returns their numbers, once `join` has
-    /// found the name free and the campaign not full. With AllocError nothing has changed.
+    /// Adds the faction and its unit, booked and marked, and returns their numbers. The campaign
+    /// has to be sound, with a unit number left, and both texts UTF-8. After AllocError nothing has
+    /// changed.
     fn enroll(
         &mut self,
         world: &World,
