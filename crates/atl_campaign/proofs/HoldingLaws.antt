@@ -1,7 +1,7 @@
 -- Laws of a unit that gets another holding (what it has) and does not begin to guard: steadiness, totals and marks. A
 -- unit may have a holding with a valid name, numbers within their limits, and only items and skills of the world. c is
 -- the campaign before the change, and n the unit's number; in laws on marks, where n isn't there, nothing changes and
--- nothing is marked. `MarksChanges` also says that no mark is lost.
+-- nothing is marked. `MarksChanges` also says that no mark is lost. An item listed with 0 counts as another amount.
 use Rattle.std.proofs.Common.{◌≡◌, ◌≢◌, ◌==◌, ℕ, ◌+◌, ◌*◌, ◌≤◌, ◌<◌, Bool, true, false, Option, Some, None, length, refl, sym, ap, subst, ◌∙◌, arith}
 use Rattle.std.specs.Prelude.{IsTrue, option_map, if◌then◌else◌}
 use Rattle.std.specs.Ordering.{nat_cmp}

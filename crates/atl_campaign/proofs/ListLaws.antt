@@ -212,7 +212,7 @@ nobody_bare k = elim (k == 0) as (λ b. list_of empty k ≡ cond b [] (list_of e
   | false ↦ refl
 ]
 
--- the lists of no units are no lists at all
+-- the lists of no units are none at all: by region, by faction and by structure
 pub AreUnitLists-nobody : AreUnitLists empty (record { by_region = empty; by_faction = empty; by_structure = empty })
 AreUnitLists-nobody = record {
   regions = nobody_listed (λ u. u.region);
