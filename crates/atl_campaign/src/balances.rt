@@ -21,6 +21,7 @@ fn is_balanced(campaign: &Campaign, thing: Thing) -> bool
     i128::from(campaign.total(thing)) == campaign.books().sum(thing)
 }
 
+/// Whether the books balance for each item of the world. Their things have to be the world's.
 fn are_items_balanced(world: &World, campaign: &Campaign) -> bool
     requires few { IsCountable campaign.now.value }
     requires things { campaign.now.value.books.things ≡ thing_count world.now }

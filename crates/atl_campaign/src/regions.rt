@@ -119,7 +119,7 @@ impl Regions {
         }
     }
 
-    /// Counts each marked row, and each region in `markets` (a stock of it is marked): 2^33 at most.
+    /// Counts each marked row and each region in `markets` (a stock of it is marked), 2^33 at most.
     pub(crate) fn marked_count(&self) -> usize
         ensures value { result ≡ set.len self.now.rows + set.len self.now.markets }
         ensures small { result ≤ 2 * number_count }

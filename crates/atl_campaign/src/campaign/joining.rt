@@ -45,6 +45,7 @@ fn home(world: &World, word: u32) -> u32
     land[word as usize % land.len()]
 }
 
+/// One man with the money, named `Unit` and the number, inside no structure and without goods.
 fn make_unit(
     alloc: Global,
     number: u32,
@@ -92,7 +93,7 @@ fn make_faction(alloc: Global, number: u32, name: &[u8], pass: &[u8]) -> Result<
     })
 }
 
-/// Books one man and his money under joining, where the amounts have to leave room for them.
+/// Books one man and his money under joining. The books need both things, and room in both amounts.
 fn book_joining(books: &mut Books, money: u32)
     requires things { 2 ≤ books.old.things }
     requires money { LeavesRoomForJoining (amount_in books.old Joining Money) }

@@ -14,7 +14,7 @@ use atl_world::{Entries, MarkedNumbers, Numbered};
 impl Campaign {
     /// How much is marked as to be written: factions, rows of regions, structures, mail, reports,
     /// amounts of the books and the campaign row count one each. So do each unit of which anything
-    /// is marked (`units` has all these), and each region of which a stock is (`markets` has these).
+    /// is marked (`units` has all these) and each region of which a stock is (`markets` has these).
     pub fn marks(&self) -> usize
         ensures value { result ≡ marks_in self.now.marks }
         ensures units { AreUnitPartsWithin self.now.marks.units self.now.marks.rows
