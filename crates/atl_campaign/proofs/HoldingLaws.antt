@@ -32,8 +32,8 @@ use Rattle.atl_world.proofs.EveryLaws.{every-insert, get-insert_other, none_some
 use Rattle.atl_records.proofs.HoldingLaws.{get-set_other, set_again}
 use Rattle.atl_campaign.proofs.RegionLaws.{get-insert_same, same_len}
 
--- a holding that a unit may get: validly named, with men, money, items and days within limits, only items and skills of
--- the world, and guarding only if the unit did
+-- a holding that a unit may get: its name keeps the rule of names, men, money, items and days are within limits, items
+-- and skills are the world's, and with it the unit guards only if it did before
 pub record MayHaveWithoutNewGuard (w : WorldValue) (u : Unit) (h : HoldingValue) : Type 0 where
   pub limits : IsHolding h
   pub name : IsTrue (name_ok h.name)

@@ -1,4 +1,4 @@
--- Laws of AreRegions, the regions' invariant: there is room for all marks, and a marked stock's region is marked.
+-- Laws of AreRegions, the regions' invariant: there is room for all marks, and a marked stock's region is in `markets`.
 use Rattle.std.proofs.Common.{◌≡◌, ℕ, Some, true, refl, sym, ap, subst, ◌∙◌}
 use Rattle.std.specs.Prelude.{is_some}
 use Rattle.std.specs.Ordering.{nat_cmp}
