@@ -281,7 +281,7 @@ pub on_err : {A E P : Type 0} (r : Result A E) → P → OnErr r P
 on_err (Ok a) p = tt
 on_err (Err e) p = p
 
--- two loans of the same value, here n, are equal if F and G, what is left after a written value, are the same for each
+-- two loans of n are equal if what is left after a value w is written, F w or G w, is the same for each w
 pub lent_same : {N W D E : Type 0} (n : N) (F G : W → D) → ((w : W) → F w ≡ G w)
     → ◌≡◌ {A = (N × (W → D)) ⊎ E} (inl (n, F)) (inl (n, G))
 lent_same n F G h j = inl (n, λ w. h w j)

@@ -56,7 +56,7 @@ fn put_before<T: Copy + Drop>(items: &mut Vec<T>, free: usize, position: usize, 
 }
 
 /// Inserts at `position`, at most the list's length. The first `free` elements are unused, at most
-/// half of all; returns how many are then. Without memory nothing changes.
+/// half of all; returns how many are then, again at most half. Without memory nothing changes.
 fn insert_at<T: Copy + Drop>(
     items: &mut Vec<T>,
     free: usize,
@@ -79,7 +79,7 @@ fn insert_at<T: Copy + Drop>(
     Ok(free - 1)
 }
 
-/// `position` is an index of the list. Returns how many elements are unused after it.
+/// Removes the element at `position`, an index of the list. Returns how many are unused then.
 fn remove_at<T: Copy + Drop>(items: &mut Vec<T>, free: usize, position: usize) -> usize
     requires { free + position < length items.old.items }
     ensures part { drop result items.new.items ≡ remove (drop free items.old.items) position }

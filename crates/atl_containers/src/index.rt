@@ -132,7 +132,7 @@ fn guess_position(entries: &[IndexEntry], number: u32) -> Option<usize>
     }
 }
 
-/// If so, the number belongs at the end. True without entries.
+/// If so, the number belongs at the end of the sorted entries. True without entries.
 fn is_above(entries: &[IndexEntry], number: u32) -> bool
     requires { IsStrictlySortedBy nat_cmp (index_numbers entries.now) }
     ensures { result ≡ true → BelongsAt (index_numbers entries.now) number (length entries.now) }
