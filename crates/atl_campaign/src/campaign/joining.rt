@@ -25,7 +25,7 @@ use atl_words::LAST_FACTION;
 use atl_world::{MarkedMap, Numbered, Text, World};
 use std::alloc::{AllocError, Global};
 
-/// A faction that is gone keeps its name taken.
+/// Whether a faction, gone or not, joined under exactly this name.
 fn is_taken(factions: &MarkedMap<Faction>, name: &[u8]) -> bool
     ensures { result ≡ list_any (λ e. pointwise nat_eq e.1.joined_as name.now)
         (map.entries factions.now.values) }
