@@ -21,6 +21,7 @@ fn is_balanced(campaign: &Campaign, thing: Thing) -> bool
     i128::from(campaign.total(thing)) == campaign.books().sum(thing)
 }
 
+/// Whether the books balance for each item of the world. Their things have to be the world's.
 fn are_items_balanced(world: &World, campaign: &Campaign) -> bool
     requires few { IsCountable campaign.now.value }
     requires things { campaign.now.value.books.things ≡ thing_count world.now }
@@ -37,7 +38,7 @@ fn are_items_balanced(world: &World, campaign: &Campaign) -> bool
     true
 }
 
-/// Of money too.
+/// Whether the books balance for money and for people.
 fn are_people_balanced(campaign: &Campaign) -> bool
     requires few { IsCountable campaign.now.value }
     requires there { 1 < campaign.now.value.books.things }

@@ -78,8 +78,7 @@ module _ {R V : Type 0} (owner : R → ℕ) (more : R → V → V) where
     abbrev Becomes : FinMap nat_cmp V → FinMap nat_cmp V → Type 0
     Becomes m l = (n : ℕ) → option_map (value_with_rows n rows) (get m n) ≡ get l n
 
-    -- if adding the rows to m gives l (Becomes), it also does once t is put into m without its rows, and into l with
-    -- them
+    -- if adding the rows to m gives l (Becomes), it still does with t put into m without its rows and into l with them
     put_one : (t : T) (m l : FinMap nat_cmp V) → Becomes m l
         → Becomes (insert m (number t) (before t)) (insert l (number t) (after t))
     put_one t m l all n =

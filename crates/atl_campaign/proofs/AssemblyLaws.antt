@@ -21,7 +21,7 @@ use Rattle.atl_world.proofs.EveryLaws.{get-insert_other}
 
 -- ---- what units have, and regions in stock
 
--- a row that passes `test` puts the amount that `amount` reads from it into a map, under the thing that `thing` reads
+-- a row that passes `test` puts the amount that `amount` reads from it into a map, under the number that `thing` reads
 module _ {R : Type 0} (thing amount : R → ℕ) (test : R → Bool) where
   -- putting the rows of r ∷ rows that pass a test into a map puts in r first, if r passes (b), and then the rows of
   -- `rows` that pass

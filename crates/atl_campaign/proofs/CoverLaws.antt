@@ -1,10 +1,11 @@
 -- Laws of change marks: each change of a campaign marks all that it changes, and so do several changes in turn.
--- `MarksChanges c d` says that from the marked campaign c to d no mark is lost, and all that changed is marked. Whether
--- a 0 is listed as a stock or in the books needs no mark. In a law of one change, c is the campaign before it, the
--- record that after it, and n the number of what changes. Where c has no faction or region n, nothing changes and
--- nothing is marked. Marks cover a change if all that is not marked stays the same (`Covers`).
--- In laws of several changes, a, b and c are the campaign, or its marks, at moments in turn. A unit's goods are its
--- items and days of study. A thing of a unit or region is an item, a skill, or an item in stock, by its number.
+-- `MarksChanges c d` says that from the marked campaign c to d no mark is lost, and all that changed is marked. No mark
+-- is needed for how many things the books have, and whether a 0 is listed as a stock or in the books. In a law of one
+-- change, c is the campaign before it, the record that after it, and n the number of what changes. Where c has no
+-- faction or region n, nothing changes and nothing is marked. Marks cover a change if all that is not marked stays the
+-- same (`Covers`). In laws of several changes, a, b and c are the campaign, or its marks, at moments in turn. Goods are
+-- a unit's items and days of study. A thing of a unit or region is an item, a skill, or an item in stock, by its
+-- number. A part is here no table, but what has marks of its own (MarkedPart), as the rows of units.
 use Rattle.std.proofs.Common.{◌≡◌, ◌≢◌, ◌==◌, ◌||◌, ℕ, Bool, true, false, if◌then◌else◌, Option, Some, None, refl, sym, ap, ◌∙◌, subst, inl, inr, arith, true≢false}
 use Rattle.std.specs.Prelude.{ℤ, List, cond, is_some, option_map, unwrap_or}
 use Rattle.std.proofs.lemmas.Bool.Decides.{nat_tests}
@@ -173,7 +174,7 @@ module _ (goods : FinSet nat_cmp) (things : MarkedThings) (n thing : ℕ) where
 
 -- ---- the parts of a campaign, which are marked each for itself
 
--- a part of a campaign that has marks of its own; laws of marks are proved part by part
+-- what of a campaign has marks of its own, called a part here; laws of marks are proved part by part
 pub data MarkedPart : Type 0 where
   Factions : MarkedPart
   -- the rows of regions, without their stocks, marked by the regions' numbers
@@ -188,8 +189,7 @@ pub data MarkedPart : Type 0 where
   Units : MarkedPart
   -- the rows of units, without their goods, marked by the units' numbers
   Rows : MarkedPart
-  -- the units all of whose items and days are marked at once; their single items and days are the parts Items and
-  -- Skills
+  -- the units all of whose items and days are marked at once; single items and days are the parts Items and Skills
   Goods : MarkedPart
   Items : MarkedPart
   Skills : MarkedPart
@@ -344,8 +344,8 @@ marks-faction f c n =
     (λ p. elim p as (PartStaysMarked c.marks next.marks) [ Factions ↦ put_stays c.marks.factions n | _ ↦ λ k h. h ])
     (λ p. elim p as (KeepsUnmarked next.marks c.value next.value) [ Factions ↦ λ k free. get-insert_other c.value.factions n k (f v) (unmarked_differs_from_put c.marks.factions n k free) | _ ↦ λ k free. refl ]))
 
--- what `shows` gives for each number's value stays the same when n's value v is replaced by w, if `shows` gives the
--- same for w as for v
+-- what `shows` gives for the value under k stays the same when n's value v is replaced by w, if k isn't n, or `shows`
+-- gives the same for w as for v
 pub shown_still : {V X : Type 0} (shows : Option V → X) (values : FinMap nat_cmp V) (n k : ℕ) (v w : V)
     → get values n ≡ Some v → (k ≡ n → shows (Some w) ≡ shows (Some v))
     → shows (get (map.insert values n w) k) ≡ shows (get values k)
@@ -405,8 +405,7 @@ pub marks-peasants : (c : MarkedCampaign) (n peasants : ℕ)
 marks-peasants c n peasants =
     marks-region (λ r. r.peasants) (λ r. record r { peasants = peasants }) peasants (λ r. refl) (λ r was. ap (λ p. record r { peasants = p }) (sym was)) c n
 
--- setting the money of a region, with its row marked if it was another amount (`mark_region_money`), marks all that
--- changes
+-- setting the money of a region, with its row marked if it was another (`mark_region_money`), marks all that changes
 pub marks-region-money : (c : MarkedCampaign) (n money : ℕ)
     → MarksChanges c (record { value = with_region_money c.value n money; marks = mark_region_money c n money })
 marks-region-money c n money =

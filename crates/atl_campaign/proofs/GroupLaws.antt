@@ -21,7 +21,7 @@ module _ {R : Type 0} (test : R → Bool) where
   first_kept P r rows true e one all = (one e, all)
   first_kept P r rows false e one all = all
 
-  -- P holds of the rows that are left by the test, if it holds of each row that passes
+  -- P holds of all rows that filtering by the test leaves, if it holds of each row that passes
   pub kept : (P : R → Type 0) (rows : List R) → AllByRecursion (λ r. test r ≡ true → P r) rows
       → AllByRecursion P (filter test rows)
   kept P [] all = tt
@@ -32,7 +32,7 @@ module _ {R : Type 0} (test : R → Bool) where
   first_unkept P r rows true e all = (λ _. all.0, all.1)
   first_unkept P r rows false e all = (λ passes. absurd (false≢true (sym e ∙ passes)), all)
 
-  -- P holds of each row that passes the test, if it holds of the rows that the test leaves
+  -- P holds of each row that passes the test, if it holds of all rows that filtering by the test leaves
   pub unkept : (P : R → Type 0) (rows : List R) → AllByRecursion P (filter test rows)
       → AllByRecursion (λ r. test r ≡ true → P r) rows
   unkept P [] all = tt

@@ -1,7 +1,7 @@
 -- Laws of a unit that gets another holding (what it has) and does not begin to guard: steadiness, totals and marks. A
 -- unit may have a holding with a valid name, numbers within their limits, and only items and skills of the world. c is
 -- the campaign before the change, and n the unit's number; in laws on marks, where n isn't there, nothing changes and
--- nothing is marked. `MarksChanges` also says that no mark is lost.
+-- nothing is marked. `MarksChanges` also says that no mark is lost. An item listed with 0 counts as another amount.
 use Rattle.std.proofs.Common.{◌≡◌, ◌≢◌, ◌==◌, ℕ, ◌+◌, ◌*◌, ◌≤◌, ◌<◌, Bool, true, false, Option, Some, None, length, refl, sym, ap, subst, ◌∙◌, arith}
 use Rattle.std.specs.Prelude.{IsTrue, option_map, if◌then◌else◌}
 use Rattle.std.specs.Ordering.{nat_cmp}
@@ -32,8 +32,8 @@ use Rattle.atl_world.proofs.EveryLaws.{every-insert, get-insert_other, none_some
 use Rattle.atl_records.proofs.HoldingLaws.{get-set_other, set_again}
 use Rattle.atl_campaign.proofs.RegionLaws.{get-insert_same, same_len}
 
--- a holding that a unit may get: validly named, with men, money, items and days within limits, only items and skills of
--- the world, and guarding only if the unit did
+-- a holding that a unit may get: its name keeps the rule of names, men, money, items and days are within limits, items
+-- and skills are the world's, and with it the unit guards only if it did before
 pub record MayHaveWithoutNewGuard (w : WorldValue) (u : Unit) (h : HoldingValue) : Type 0 where
   pub limits : IsHolding h
   pub name : IsTrue (name_ok h.name)

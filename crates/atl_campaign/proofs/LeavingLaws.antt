@@ -51,7 +51,9 @@ module _ (w : WorldValue) (c : CampaignValue) (n : ℕ) (u : Unit) (is : get c.u
   -- where no unit is left inside
   pub record AreReowned (structures : FinMap nat_cmp Structure) : Type 0 where
     pub count : len structures ≡ len c.structures
+    -- each of these structures is, but for its owner, the campaign's of the same number
     pub back : Every (λ k x. (y : Structure) × (o : ℕ) × (get c.structures k ≡ Some y) × (owned_by o y ≡ x)) structures
+    -- each of the campaign's structures is, but for its owner, among these under its number
     pub forth : Every (λ k y. (o : ℕ) × (get structures k ≡ Some (owned_by o y))) c.structures
     pub owned : Every (λ k x. IsOwned (reduced structures) k x) structures
 

@@ -1,7 +1,7 @@
 -- Laws of the map made of rows: each row's value is found in it, and it is written as just these rows, in some order.
 -- `number` and `value` read the number and the value of a row, and `row` makes the row of both.
 -- `by_number number value rows` is the map with the value of each row under its number. Of rows with the same number,
--- the last counts.
+-- the last counts. An entry of a map is a number with its value.
 use Rattle.std.proofs.Common.{◌≡◌, ◌≢◌, ℕ, ◌++◌, List, [], ◌∷◌, Bool, true, false, cond, map, Some, None, refl, sym, ap, subst, ◌∙◌, suc, length, inl, inr, ◌⊎◌}
 use Rattle.std.specs.Prelude.{⊤}
 use Rattle.std.specs.declared.cmp.Ordering.TheVariants.{Less, Equal, Greater}

@@ -1,4 +1,4 @@
--- Laws of AreRegions, the regions' invariant: there is room for all marks, and a marked stock's region is marked.
+-- Laws of AreRegions, the regions' invariant: there is room for all marks, and a marked stock's region is in `markets`.
 use Rattle.std.proofs.Common.{◌≡◌, ℕ, Some, true, refl, sym, ap, subst, ◌∙◌}
 use Rattle.std.specs.Prelude.{is_some}
 use Rattle.std.specs.Ordering.{nat_cmp}
@@ -60,8 +60,8 @@ module _ (regions : FinMap nat_cmp Region) (rows markets stocks : RoomySet) (ite
       record { within = h.within; rows_fit = Room-put regions rows.numbers rows.room n (get regions n) refl h.rows_fit; markets_fit = h.markets_fit; stocks_fit = h.stocks_fit }
 
   module _ (n : ℕ) (r : Region) (is : get regions n ≡ Some r) where
-    -- the invariant still holds once the single marks on stocks of region n are those in `group`, and the region is put
-    -- into `markets`
+    -- the invariant still holds once region n, which is there, is put into `markets`, and the single marks on its
+    -- stocks are those in `group`
     pub AreRegions-item : (group : FinMap nat_cmp (Prim.Unit {0}))
         → AreRegions regions rows (with_region_marked regions markets n) stocks (insert items n group)
     AreRegions-item group = record {
@@ -74,7 +74,7 @@ module _ (regions : FinMap nat_cmp Region) (rows markets stocks : RoomySet) (ite
       stocks_fit = h.stocks_fit;
     }
 
-    -- the invariant still holds once all stocks of region n are marked, and the region is put into `markets`
+    -- the invariant still holds once region n, which is there, is put into `markets`, and all its stocks are marked
     pub AreRegions-stocks : AreRegions regions rows (with_region_marked regions markets n) (with_region_marked regions stocks n) items
     AreRegions-stocks = record {
       within = subst (λ o. AreStocksWithin (marked_with markets.numbers n o) (marked_with stocks.numbers n o) items) (sym is) (record {
@@ -86,7 +86,7 @@ module _ (regions : FinMap nat_cmp Region) (rows markets stocks : RoomySet) (ite
       stocks_fit = Room-put regions stocks.numbers stocks.room n (get regions n) refl h.stocks_fit;
     }
 
-  -- the invariant still holds once a region is replaced by another one under its number
+  -- the invariant still holds once a region that is there is replaced by another one under its number
   pub AreRegions-over : (n : ℕ) (r s : Region) → get regions n ≡ Some r
       → AreRegions (insert regions n s) rows markets stocks items
   AreRegions-over n r s is = record {

@@ -81,7 +81,7 @@ place_stays c n r s u is same =
     (ap (place_marked_at c n r s) is ∙ ap (λ b. if b then put_marked c n r s else handed_marked (handed_marked (put_marked c n r s) u.structure n (heir c.value u.structure n)) s 0 n) same)
 
 -- Moving a unit to another structure puts it there, and marks it and its row (`put_marked`). The structure left goes to
--- the next owner (`heir`) if the unit owned it, and the one entered to the unit if it had no owner; both with a mark.
+-- the next owner (`heir`) if the unit owned it, and the one entered to the unit if it had no owner; each is marked.
 pub place_leaves : (c : MarkedCampaign) (n r s : ℕ) (u : Unit) → get c.value.units n ≡ Some u
     → (u.structure == s) ≡ false
     → handed_marked (handed_marked (put_marked c n r s) u.structure n (heir c.value u.structure n)) s 0 n

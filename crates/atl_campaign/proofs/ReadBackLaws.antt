@@ -1,7 +1,7 @@
 -- Laws of reading maps back: the rows of a map's entries, in any order, give that map again. `row` makes the row of a
 -- number and its value, and `number` and `value` read both from a row.
 -- m is a map by number, and `rows_by row (entries m)` are its rows; P is a condition, p a test of rows, and e tests
--- whether two rows or elements count as the same.
+-- whether two rows or elements count as the same. An entry of a map is a number with its value.
 use Rattle.std.proofs.Common.{◌≡◌, ℕ, suc, ◌≤◌, ◌<◌, ◌&&◌, ◌++◌, List, [], ◌∷◌, Bool, true, false, length, Some, None, refl, sym, ap, ◌∙◌, arith}
 use Rattle.std.specs.Prelude.{pos, ⊤}
 use Rattle.std.specs.declared.cmp.Ordering.{Ordering}

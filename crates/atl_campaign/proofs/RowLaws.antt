@@ -75,8 +75,9 @@ rows_under-none books entry n h =
     ∙ ap (λ rows. rows_under books (accounts_under n entry) ++ rows) (rows_under_one books (entry, thing_at n) ∙ ap (λ z. cond (not (is_zero z)) (books_row entry (thing_at n) z ∷ []) []) h)
     ∙ append-nil (rows_under books (accounts_under n entry))
 
--- The rows of the books of the first `things` things are `all`, those written so far with those of the entries to come.
--- Before the next entry x is written, they are `before` and those of `now`; after it, `after` and those of `rest`.
+-- If the rows `before`, with those of the entries `now` after them, are `all`, so are the rows `after`, with those of
+-- `rest` after them. Here `now` is x and then `rest`, and `after` is `before` and then the rows of x. The rows of an
+-- entry are of its amounts of the first `things` things that aren't 0.
 pub entry_added : (books : BooksValue) (things : ℕ) (x : BooksEntry) (now rest : List BooksEntry) (before after all : List StoredBooks)
     → now ≡ x ∷ rest → after ≡ before ++ rows_under books (accounts_under things x)
     → before ++ rows_under books (flat_map (accounts_under things) now) ≡ all

@@ -1,6 +1,6 @@
 -- Laws of rules that are checked entry by entry. The method `all` of an iterator answers whether a closure is true of
 -- all entries. So it decides Every, which says that P holds of each number of a map with its value. `Decides b A` says
--- that b is true exactly where A holds.
+-- that b is true exactly where A holds. An entry of a map is a number with its value.
 use Rattle.std.proofs.Common.{◌≡◌, ℕ, zero, suc, ◌+◌, ◌<◌, ◌≤◌, inl, inr, arith, Bool, true, false, List, [], ◌∷◌, Option, Some, None, Bor, is_some, option_copied, Decides, length, get_or, refl, sym, ap, ◌∙◌}
 use Rattle.std.proofs.lemmas.Bool.{cases_lt, false≢true}
 use Rattle.std.proofs.lemmas.Bool.Decides.{Decides-like}

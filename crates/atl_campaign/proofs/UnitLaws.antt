@@ -1,6 +1,6 @@
--- Laws of AreUnits, the units' invariant: there is room for all marks, and a unit with a marked part is marked.
--- `marks` has the units of which a part is marked. Of these, `rows` has those whose rows are, `goods` those all of
--- whose items and days are, and `items` and `skills` the single ones. Unit n is u before a change, and w after it.
+-- Laws of AreUnits, the units' invariant: there is room for all marks, and a unit of which anything is marked is in
+-- `marks`. Of these units, `rows` has those whose rows are marked, `goods` those all of whose items and days are, and
+-- `items` and `skills` the single ones. Unit n is u before a change, and w after it.
 use Rattle.std.proofs.Common.{◌≡◌, ℕ, ◌+◌, ◌≤◌, Bool, true, false, ◌||◌, cond, Option, Some, None, refl, sym, ap, ◌∙◌, arith}
 use Rattle.std.specs.Prelude.{is_some, if◌then◌else◌}
 use Rattle.std.specs.Ordering.{nat_cmp, eq_by_cmp}
@@ -121,7 +121,7 @@ AreUnits-of units =
     record { within = within-none; marks_fit = Room-of units; rows_fit = Room-of units; goods_fit = Room-of units }
 
 module _ (units : FinMap nat_cmp Unit) (marks rows goods : RoomySet) (items skills : MarkedThings) where
-  -- before a change, there is room for all marks of units, and each unit with a marked part is marked (AreUnits)
+  -- before a change, there is room for all marks, and each unit of which anything is marked is in `marks` (AreUnits)
   abbrev Before : Type 0
   Before = AreUnits units marks rows goods items skills
 
@@ -191,7 +191,7 @@ module _ (units : FinMap nat_cmp Unit) (marks rows goods : RoomySet) (items skil
 
 -- ---- a unit that is new
 
--- a dirty set with the same numbers as another, and with room for these and, besides, for each unit and one unit more
+-- the dirty set `more` has the same numbers as `marks`, and room for these and, besides, for each unit and for one more
 pub record IsWider (units : FinMap nat_cmp Unit) (marks more : RoomySet) : Type 0 where
   pub same : more.numbers ≡ marks.numbers
   pub room : set.len marks.numbers + (len units + 1) ≤ more.room

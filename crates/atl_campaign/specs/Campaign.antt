@@ -110,8 +110,8 @@ empty_campaign = record {
   books = no_amounts 0;
 }
 
--- the empty campaign, with nothing marked: what founding starts from, and what closing a month leaves behind while the
--- phases have the campaign
+-- the empty campaign, with nothing marked: what founding starts from, and what closing a month puts in the campaign's
+-- place while the phases have the campaign
 abbrev pub blank : MarkedCampaign
 blank = record { value = empty_campaign; marks = no_marks }
 

@@ -13,8 +13,7 @@ use Rattle.atl_campaign.specs.Marks.{Marks, MarkedThings, is_thing_marked}
 use Rattle.atl_campaign.specs.Campaign.{CampaignValue, MarkedCampaign}
 use Rattle.atl_campaign.specs.Stocks.{stock_of}
 
--- the maps `before` and `after` have the same value, or both none, under each number that is not in the dirty set
--- `marks`
+-- the maps `before` and `after` have the same value, or both none, under each number not in the dirty set `marks`
 abbrev pub SameBut : {V : Type 0} → FinSet nat_cmp → FinMap nat_cmp V → FinMap nat_cmp V → Type 0
 SameBut marks before after = (n : ℕ) → contains marks n ≡ false → get after n ≡ get before n
 

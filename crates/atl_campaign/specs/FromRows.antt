@@ -133,8 +133,7 @@ no_campaign_row = record {
 abbrev pub campaign_row_of : Parts → StoredCampaignRow
 campaign_row_of p = slice_index_or p.campaign 0 no_campaign_row
 
--- the campaign that is read from rows, whether they keep the rules or not; the world says how many things its books
--- have
+-- the campaign that is read from rows, whether they keep the rules or not; its books are of the world's things
 unfoldable pub campaign_of : WorldValue → Parts → CampaignValue
 campaign_of w p = record {
   month = as_u32 (campaign_row_of p).month;

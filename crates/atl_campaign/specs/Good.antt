@@ -169,7 +169,7 @@ pub record AreKnown (w : WorldValue) (c : CampaignValue) : Type 0 where
 pub record IsNumbered {V : Type 0} (m : FinMap nat_cmp V) (next : ℕ) : Type 0 where
   -- the map has nothing under the number 0
   pub first : get m 0 ≡ None
-  -- `next` is one above how many entries the map has
+  -- `next` is one above how many numbers have a value in the map
   pub count : next ≡ len m + 1
   -- the map has nothing under `next` or any number above it
   pub free : (n : ℕ) → next ≤ n → get m n ≡ None

@@ -26,12 +26,11 @@ abbrev pub is_full : CampaignValue → Bool
 is_full c = (nat_le last_faction (len c.factions) || nat_le most_units (len c.units)) || nat_lt last_unit c.next_unit
 
 -- The number of the region where a faction begins: the land region at index `word` modulo the count of land regions.
--- `word` is a word of the dice. Land regions are in the order of their numbers, and the first has the index 0.
+-- `word` is a word of the dice. Land regions are in the order of their numbers, from index 0; each world has one.
 abbrev pub home_of : WorldValue → ℕ → ℕ
 home_of w word = slice_index (land_of w) (word % length (land_of w))
 
--- a faction as it joins, with the given number, name and pass text: not gone, and shown under the name that it joins
--- under
+-- a faction as it joins, with the given number, name and pass text: not gone, and shown under the same name
 abbrev pub new_faction : ℕ → List ℕ → List ℕ → Faction
 new_faction number name pass = record { number = number; joined_as = name; name = name; pass = pass; gone = false }
 

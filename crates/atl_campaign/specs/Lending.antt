@@ -1,5 +1,5 @@
--- What becomes of a campaign after a write through the holding that `unit_mut` lends. A unit's holding is what it has,
--- its goods are its items and days of study.
+-- What becomes of a campaign once `unit_mut` lends a unit's holding, which is what the unit has. The loan is a
+-- reference through which the holding may be written. A unit's goods are its items and days of study.
 use Rattle.std.specs.Prelude.{ℕ, Option, Some, None}
 use Rattle.std.specs.FinMap.{get, insert}
 use Rattle.std.specs.Borrow.{LendsIf, MutBor, Fml}

@@ -1,8 +1,8 @@
 -- What is marked, as rows to be written, after each change of a campaign.
 -- c is the campaign before the change, with its marks, and n the number of what changes. A result that is a campaign is
--- the one after the change. A unit's goods are its items and days of study. Structure 0 is none. An item that
--- a unit lists with 0 pieces counts as another amount than any (`has_amount`). Where a stock is marked, its region is
--- put in `markets`.
+-- the one after the change. A unit's goods are its items and days of study. Structure 0 is none. A unit that lists an
+-- item with 0 pieces counts as having another amount than any new one (`has_amount`). Where a stock is marked, its
+-- region is put in `markets`.
 use Rattle.std.specs.Prelude.{◌≡◌, ◌⊎◌, ◌==◌, ℕ, Bool, true, Option, Some, None, if◌then◌else◌}
 use Rattle.std.specs.FinMap.{get, remove, keys}
 use Rattle.std.specs.FinSet.{FinSet, insert, union, from_list}

@@ -1,4 +1,5 @@
--- The change marks of a campaign: what of it changed since it was last written.
+-- The change marks of a campaign: what of it changed since it was last written. A thing of a unit or region is here an
+-- item, a skill, or an item in stock, by its number.
 use Rattle.std.specs.Prelude.{◌≡◌, ◌<◌, ℕ, ◌+◌, ◌*◌, ◌||◌, refl, Bool, true, false, Option, Some, None, is_some, if◌then◌else◌}
 use Rattle.std.specs.Ordering.{nat_cmp}
 use Rattle.std.specs.Coded.{Coded, code_by, coded×, coded_ℕ, coded_bool}
@@ -47,7 +48,7 @@ pub record Marks : Type 0 where
   pub books : FinSet nat_cmp
   pub row : Bool
 
--- for proofs alone: marked single items, skills or stocks encoded as a map of maps, a part of `marks_code`
+-- for proofs alone: marked single items, skills or stocks encoded as a map of maps, as `marks_code` uses it
 abbrev pub things_code : Coded MarkedThings
 things_code = map.code coded_ℕ (map.code coded_ℕ coded_unit)
 
@@ -160,6 +161,6 @@ marks_in m =
 abbrev pub amount_marked : FinSet nat_cmp → BooksEntry → Thing → FinSet nat_cmp
 amount_marked marks e t = insert marks (amount_number e t)
 
--- only amounts of the first `things` things are marked in the given dirty set of the books
+-- all numbers in the given dirty set of the books are those (`amount_number`) of amounts of the first `things` things
 abbrev pub AreOfThings : ℕ → FinSet nat_cmp → Type 0
 AreOfThings things marks = (n : ℕ) → contains marks n ≡ true → n < entry_count * things

@@ -1,4 +1,4 @@
--- For proofs alone: what the regions are after a write through a region that they lend.
+-- For proofs alone: what the regions are once they lend one. The loan is a reference through which it may be written.
 use Rattle.std.specs.Prelude.{ℕ, Option}
 use Rattle.std.specs.FinMap as map
 use Rattle.std.specs.Borrow.{LendsIf, MutBor, Fml}

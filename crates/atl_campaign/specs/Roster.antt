@@ -1,5 +1,5 @@
--- The units of a campaign with marks: on units, their rows, all goods of a unit, and single items and skills. A unit's
--- goods are its items and days of study. An item that is listed with 0 counts as another amount than 0 (`has_amount`).
+-- A roster is the units of a campaign with marks on units, rows, all goods of a unit, and single items and skills.
+-- Goods are items and days of study. An item listed with 0 counts as another amount than any new one (`has_amount`).
 use Rattle.std.specs.Prelude.{ℕ, refl, Option, Some, None, if◌then◌else◌}
 use Rattle.std.specs.Ordering.{nat_cmp}
 use Rattle.std.specs.Coded.{Coded, code_by, coded×, coded_ℕ}
@@ -13,7 +13,7 @@ use Rattle.atl_records.specs.Holdings.{has_amount}
 use Rattle.atl_campaign.specs.Marks.{MarkedThings, things_code, thing_marked}
 
 -- The units by number, with marks on units (`marks`), their rows, all goods of a unit, and single items and skills.
--- A unit is in `marks` if any part of it is marked; `items` and `skills` are by unit.
+-- A unit is in `marks` if its row, its goods, an item or a skill of it is marked; `items` and `skills` are by unit.
 pub record Roster : Type 0 where
   pub values : map.FinMap nat_cmp Unit
   pub marks : set.FinSet nat_cmp

@@ -78,7 +78,7 @@ abbrev pub unit_in_range : StoredUnit → Bool
 unit_in_range r =
     ((is_from 1 last_unit r.number && is_from 1 men_limit r.men) && is_from 0 holding_limit r.money) && is_from 0 1 r.guard
 
--- whether a row of `has` is of a skill (sort 1), whose days rule 6 judges, or of 1 to 999,999,999 of an item (sort 0)
+-- whether a row of `has` is of a skill (sort 1), with any amount of days, or of 1 to 999,999,999 of an item (sort 0)
 abbrev pub has_in_range : StoredHas → Bool
 has_in_range r = is_from 1 1 r.sort || (is_from 0 0 r.sort && is_from 1 holding_limit r.amount)
 
@@ -124,7 +124,7 @@ region_key r = one_key r.number
 abbrev pub unit_key : StoredUnit → Key
 unit_key r = one_key r.number
 
--- the key of a row of `has`: its unit, sort and thing
+-- the key of a row of `has`: its unit, its sort (0 items, 1 days), and its thing, which is an item or a skill
 abbrev pub has_key : StoredHas → Key
 has_key r = (r.unit, r.sort, r.thing)
 

@@ -100,7 +100,7 @@ books_row entry thing amount = record { entry = pos (entry_index entry + 1); thi
 abbrev pub market_row : ℕ → ℕ → ℕ → StoredMarket
 market_row region item stock = record { region = pos region; item = pos item; stock = pos stock }
 
--- a row for each of the given entries of a map, in their order; `row` makes it of the entry's number and value
+-- a row for each listed pair of a number and its value, in their order; `row` makes it of the pair
 abbrev pub rows_by : {V R : Type 0} → (ℕ → V → R) → List (ℕ × V) → List R
 rows_by row es = map (λ e. row e.0 e.1) es
 

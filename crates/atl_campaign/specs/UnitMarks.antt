@@ -1,5 +1,5 @@
--- For proofs alone: what becomes of a roster, the units with their marks, after a write through a unit that it lends,
--- and what is marked then. A unit's goods are its items and days of study.
+-- For proofs alone: what becomes of a roster, the units with their marks, once it lends a unit, and what is marked. The
+-- loan is a reference through which the unit may be written. A unit's goods are its items and days of study.
 use Rattle.std.specs.Prelude.{ℕ, Option}
 use Rattle.std.specs.FinMap as map
 use Rattle.std.specs.FinSet as set

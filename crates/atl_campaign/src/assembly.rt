@@ -1,4 +1,4 @@
-//! Builds the parts of a campaign from rows.
+//! Builds from rows what a campaign holds: units, their lists, maps by number, and books.
 mod books;
 mod goods;
 mod maps;

@@ -1,6 +1,6 @@
 //! The campaign: the calls that read it, lend a unit's holding, or store mail and reports. What is
 //! said of ranges, and of which numbers there are, holds of good campaigns. A unit's goods are its
-//! items and days of study.
+//! items and days of study; its holding is these with its name, men, money and guard flag.
 ghost use Rattle.std.specs.Prelude.{◌≡◌, ◌<◌, ◌≤◌, IfOk, OnOk, OnErr};
 ghost use Rattle.std.specs.Option.{option_copied};
 ghost use Rattle.std.specs.FinMap as map;
@@ -153,8 +153,7 @@ impl Campaign {
         self.factions.iter()
     }
 
-    /// The numbers of the factions that aren't gone, in rising order. AllocError without memory for
-    /// them.
+    /// The numbers of the factions that aren't gone, in rising order. AllocError without memory.
     pub fn active(&self) -> Result<Vec<u32>, AllocError>
         ensures { IfOk result (λ numbers. numbers.items ≡ active self.now.value) }
     {
@@ -244,8 +243,7 @@ impl Campaign {
         self.structures.len()
     }
 
-    /// A faction's mail for the month to come, byte for byte as it was sent; None where the faction
-    /// sent none.
+    /// A faction's mail for the month to come, byte for byte as it was sent; None if it sent none.
     pub fn mail_of(&self, faction: u32) -> Option<&Sequence<u8>>
         ensures { option_copied result ≡ map.get self.now.value.mail faction }
     {

@@ -119,6 +119,7 @@ impl Regions {
         }
     }
 
+    /// Counts each marked row and each region in `markets` (a stock of it is marked), 2^33 at most.
     pub(crate) fn marked_count(&self) -> usize
         ensures value { result ≡ set.len self.now.rows + set.len self.now.markets }
         ensures small { result ≤ 2 * number_count }
@@ -187,7 +188,7 @@ impl Regions {
         }
     }
 
-    /// Marks all stocks of the region where there is no memory to mark the one.
+    /// Marks the stock of an item or, where there is no memory for that, all stocks of the region.
     fn mark_item(&mut self, alloc: Global, number: u32, item: u32)
         ensures { (self.new ≡ with_item_marked self.old number item) ⊎ (self.new
             ≡ with_stocks_marked self.old number) }
@@ -215,6 +216,7 @@ impl Regions {
         }
     }
 
+    /// Marks the region's row if it had another number of peasants, and none of its stocks.
     pub(crate) fn set_peasants(&mut self, number: u32, peasants: u32)
         ensures { self.new ≡ with_region_number (λ r. r.peasants)
             (λ r. record r { peasants = peasants }) self.old number peasants }
@@ -226,6 +228,7 @@ impl Regions {
         }
     }
 
+    /// Marks the region's row if it had another amount of money, and none of its stocks.
     pub(crate) fn set_money(&mut self, number: u32, money: u32)
         ensures { self.new ≡ with_region_number (λ r. r.money) (λ r. record r { money = money })
             self.old number money }

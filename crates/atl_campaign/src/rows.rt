@@ -353,7 +353,7 @@ fn books_rows(alloc: Global, books: &Books) -> Result<Sequence<StoredBooks>, All
     Ok(rows)
 }
 
-/// The rows of what stands under a number of its own.
+/// The rows of what has a number of its own.
 #[derive(Drop)]
 struct NumberedRows {
     factions: Sequence<StoredFaction>,

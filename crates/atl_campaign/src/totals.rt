@@ -1,4 +1,5 @@
-//! How much of a thing all units hold together, and how much all regions hold.
+//! How much of a thing all units hold together, and how much all regions hold, with their stocks.
+//! There have to be at most 1,000,000 of each; each holds at most 2^32 - 1.
 ghost use Rattle.std.specs.Prelude.{◌≡◌, ◌≤◌, ◌*◌, length};
 ghost use Rattle.std.specs.FinMap as map;
 ghost use Rattle.atl_world.specs.Sums.{sum_over};
@@ -22,7 +23,6 @@ pub(crate) fn units_total(units: &Units, thing: Thing) -> u64
     sum
 }
 
-/// With the regions' stocks.
 pub(crate) fn regions_total(regions: &Regions, thing: Thing) -> u64
     requires { length (map.entries regions.now.values) ≤ 1000000 }
     ensures value { result ≡ sum_over (λ r. region_amount thing r) regions.now.values }

@@ -1,7 +1,9 @@
 //! The units of a campaign by number, with dirty marks on their rows, all goods (items and days of
 //! study), and single items and skills. A call that changes or removes a unit does nothing where no
-//! unit has the number given. `get` answers None there. Where memory runs out, the answer is
-//! AllocError. If a unit lists an item with 0 pieces, the item is marked whatever it is set to.
+//! unit has the number given. `get` answers None there. To set a name, men, money or the guard flag
+//! marks the unit and its row; `insert` and `remove` also mark all its goods. If a unit lists an
+//! item with 0 pieces, the item is marked whatever it is set to. Where memory runs out, the answer
+//! is AllocError, and after `insert` nothing has changed.
 ghost use Rattle.std.specs.Prelude.{◌≡◌, ◌≤◌, ◌⊎◌, IfOk, OnOk, OnErr, option_copied, None};
 ghost use Rattle.std.specs.FinMap as map;
 ghost use Rattle.std.specs.FinSet as set;
@@ -18,7 +20,7 @@ use std::alloc::{AllocError, Global};
 use std::marker::Model;
 
 /// The units of a campaign by number, with dirty marks on units, rows, goods, and single items and
-/// skills. A unit of which a part is marked is marked itself.
+/// skills. A unit of which any of these is marked is marked itself.
 pub(crate) struct Units {
     units: Arena<Unit>,
     // The numbers of the units of which something is marked, with room for every unit.
@@ -39,8 +41,8 @@ impl Drop for Units {
     }
 }
 
-/// Clauses see the units by number with their marks. A unit of which a part is marked is marked
-/// itself, and there is room to mark each unit, its row and its goods.
+/// Clauses see the units by number with their marks. A unit whose row, goods, or single items or
+/// skills are marked is marked itself. There is room to mark each unit, its row and its goods.
 impl Model for Units {
     ghost use Rattle.atl_campaign.specs.Roster.{Roster, roster_code};
     ghost use Rattle.atl_campaign.specs.UnitRoom.{AreUnits};
@@ -114,7 +116,7 @@ impl Units {
         self.units.len()
     }
 
-    /// Units that were removed since the last write count too.
+    /// Counts each unit of which anything is marked, also if it was removed since: 2^32 at most.
     pub(crate) fn marked_count(&self) -> usize
         ensures value { result ≡ set.len self.now.marks }
         ensures small { result ≤ most_map_entries }
@@ -228,7 +230,7 @@ impl Units {
         }
     }
 
-    /// No owner changes.
+    /// Puts a unit in a region and structure (0: none), and marks it and its row. No owner changes.
     pub(crate) fn set_place(&mut self, number: u32, region: u32, structure: u32)
         ensures { self.new ≡ with_unit_row
             (λ u. record u { region = region; structure = structure }) self.old number }

@@ -19,15 +19,16 @@ module _ {A : Type 0} (xs : List A) (free position : ℕ) where
   count : free + position - free ≡ position
   count = omega arith
 
-  -- moving the elements between the unused ones and an index up by one removes the element at that index from the list
+  -- moving the list's first `position` elements up by one, over the next one, removes that one from the list; one more
+  -- element is unused then
   pub closed : free + position < length xs
       → drop (free + 1) (copy_within xs free (free + position) (free + 1)) ≡ remove (drop free xs) position
   closed l =
       let after : free + 1 + position ≡ free + suc position = omega arith in
       rw (list_after_copy xs free (free + position) (free + 1) (omega arith), count, after) (ap (λ ys. take position (drop free xs) ++ ys) (sym (drop-drop (suc position) free xs)))
 
-  -- where an element is unused, moving the list's elements before an index down by one, and putting x into the gap,
-  -- inserts x into the list at that index
+  -- where an element is unused, moving the list's first `position` elements down by one, and putting x after them,
+  -- inserts x into the list at index `position`; one element less is unused then
   pub opened : (x : A) → 0 < free → free + position ≤ length xs
       → drop (free - 1) (set (copy_within xs free (free + position) (free - 1)) (free - 1 + position) x)
       ≡ insert (drop free xs) position x
@@ -37,7 +38,7 @@ module _ {A : Type 0} (xs : List A) (free position : ℕ) where
       rw (drop-set-add (free - 1) (copy_within xs free (free + position) (free - 1)) position x, list_after_copy xs free (free + position) (free - 1) (omega arith), count, drop_more xs (free - 1 + position) x (omega arith), after)
       (set_at (take position (drop free xs)) (get_or xs (free - 1 + position) x) (drop (free + position) xs) x position (length-take-le position (drop free xs) long) ∙ ap (λ ys. take position (drop free xs) ++ x ∷ ys) (sym (drop-drop position free xs)))
 
-  -- removing the element behind the unused ones and `position` more removes the one at index `position` of the list
+  -- removing the element at index `free + position` of the vector removes the one at index `position` of the list
   pub removed : free + position ≤ length xs → drop free (remove xs (free + position)) ≡ remove (drop free xs) position
   removed l =
       let long : free ≤ length (take (free + position) xs) = omega (arith, length-take-le (free + position) xs l) in
@@ -45,7 +46,7 @@ module _ {A : Type 0} (xs : List A) (free position : ℕ) where
       drop-append-le free (take (free + position) xs) (drop (suc (free + position)) xs) long
       ∙ rw (drop-take free position xs, after) (ap (λ ys. take position (drop free xs) ++ ys) (sym (drop-drop (suc position) free xs)))
 
-  -- inserting x behind the unused elements and `position` more inserts it at index `position` of the list
+  -- inserting x at index `free + position` of the vector inserts it at index `position` of the list
   pub inserted : (x : A) → free + position ≤ length xs
       → drop free (insert xs (free + position) x) ≡ insert (drop free xs) position x
   inserted x l =

@@ -1,7 +1,7 @@
 -- Laws of an arena: a map i from numbers to slots, and a slab s of values in these slots, are a map of values. Most
 -- laws on it suppose that each number has a slot of its own (`HaveOwnSlots`). t is the slab after slot k alone changed,
 -- or with the same values. n is a number that leads to k, x (or w) the value that k gets, m the map of values, o a slot
--- or None, and q any number.
+-- or None, and q any number. An entry is a number with its slot or its value.
 use Rattle.std.proofs.Common.{◌≡◌, ◌≢◌, ℕ, ◌+◌, ◌-◌, ◌<◌, Bool, true, false, cond, List, [], ◌∷◌, length, Option, Some, None, ◌⊎◌, inl, inr, refl, sym, ap, ◌∙◌, arith}
 use Rattle.std.specs.Prelude.{count_by, is_some, Result, Ok, Err, OnErr}
 use Rattle.std.proofs.lemmas.Bool.{false≢true, and_parts, cases_eq, cases_lt}
@@ -281,7 +281,7 @@ pub on_err : {A E P : Type 0} (r : Result A E) → P → OnErr r P
 on_err (Ok a) p = tt
 on_err (Err e) p = p
 
--- two loans of the same value, here n, are equal if F and G, what is left after a written value, are the same for each
+-- two loans of n are equal if what is left after a value w is written, F w or G w, is the same for each w
 pub lent_same : {N W D E : Type 0} (n : N) (F G : W → D) → ((w : W) → F w ≡ G w)
     → ◌≡◌ {A = (N × (W → D)) ⊎ E} (inl (n, F)) (inl (n, G))
 lent_same n F G h j = inl (n, λ w. h w j)

@@ -1,4 +1,4 @@
--- For proofs alone: an index, which leads from numbers to slots of an arena, as a list of numbers or of pairs.
+-- For proofs alone: an index, which leads from numbers to slots of an arena. An entry of it is a number with its slot.
 use Rattle.std.specs.Prelude.{ℕ, List, map}
 use Rattle.atl_containers.specs.declared.index.IndexEntry.{IndexEntry}
 

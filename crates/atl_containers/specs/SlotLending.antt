@@ -1,4 +1,4 @@
--- For proofs alone: what an arena holds after a write through a value that it lent.
+-- For proofs alone: what an arena holds once it lends a value. The loan is a reference through which it may be written.
 use Rattle.std.specs.Prelude.{ℕ, Option}
 use Rattle.std.specs.Ordering.{nat_cmp}
 use Rattle.std.specs.FinMap as map

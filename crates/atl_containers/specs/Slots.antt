@@ -7,7 +7,7 @@ use Rattle.slab.specs.Slab as slab
 use Rattle.atl_world.specs.Every.{EachEntry}
 
 module _ {V : Type 0} where
-  -- the entries `rest` with n and the given value in front, or `rest` alone if the value is None
+  -- the list `rest` with the pair of n and the given value in front, or `rest` alone if the value is None
   abbrev pub slot_entry_at : ℕ → Option V → List (ℕ × V) → List (ℕ × V)
   slot_entry_at n None rest = rest
   slot_entry_at n (Some v) rest = (n, v) ∷ rest

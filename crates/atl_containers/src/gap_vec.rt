@@ -25,7 +25,8 @@ impl<T> Model for GapVec<T> {
     ghost invariant = { λ a. a.free + a.free ≤ length a.items.items };
 }
 
-/// Adds elements in front, half as many as there were, rounded down, and one; returns how many.
+/// Adds elements in front, half as many as there are, rounded down, and one; returns how many.
+/// There has to be an element. Without memory nothing changes.
 fn make_room<T: Copy + Drop>(items: &mut Vec<T>) -> Result<usize, AllocError>
     requires { 0 < length items.old.items }
     ensures some { IfOk result (λ free. 0 < free) }
@@ -40,7 +41,8 @@ fn make_room<T: Copy + Drop>(items: &mut Vec<T>) -> Result<usize, AllocError>
     Ok(free)
 }
 
-/// One of the `free` unused elements is taken, so one less is unused after it.
+/// Inserts an element into the list at `position`, at most its length. One of the `free` unused
+/// elements, of which there has to be one, is taken for it.
 fn put_before<T: Copy + Drop>(items: &mut Vec<T>, free: usize, position: usize, thing: T)
     requires some { 0 < free }
     requires within { free + position ≤ length items.old.items }
@@ -53,7 +55,8 @@ fn put_before<T: Copy + Drop>(items: &mut Vec<T>, free: usize, position: usize, 
     items[first + position] = thing;
 }
 
-/// `position` is at most the list's length. Returns how many elements are unused after it.
+/// Inserts at `position`, at most the list's length. The first `free` elements are unused, at most
+/// half of all; returns how many are then, again at most half. Without memory nothing changes.
 fn insert_at<T: Copy + Drop>(
     items: &mut Vec<T>,
     free: usize,
@@ -76,7 +79,7 @@ fn insert_at<T: Copy + Drop>(
     Ok(free - 1)
 }
 
-/// `position` is an index of the list. Returns how many elements are unused after it.
+/// Removes the element at `position`, an index of the list. Returns how many are unused then.
 fn remove_at<T: Copy + Drop>(items: &mut Vec<T>, free: usize, position: usize) -> usize
     requires { free + position < length items.old.items }
     ensures part { drop result items.new.items ≡ remove (drop free items.old.items) position }

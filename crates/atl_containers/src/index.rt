@@ -132,7 +132,7 @@ fn guess_position(entries: &[IndexEntry], number: u32) -> Option<usize>
     }
 }
 
-/// True without entries.
+/// If so, the number belongs at the end of the sorted entries. True without entries.
 fn is_above(entries: &[IndexEntry], number: u32) -> bool
     requires { IsStrictlySortedBy nat_cmp (index_numbers entries.now) }
     ensures { result ≡ true → BelongsAt (index_numbers entries.now) number (length entries.now) }
@@ -143,6 +143,7 @@ fn is_above(entries: &[IndexEntry], number: u32) -> bool
     }
 }
 
+/// Where sorted entries have the number (Ok), or where it belongs if they don't (Err).
 fn position_of(entries: &[IndexEntry], number: u32) -> Result<usize, usize>
     requires { IsStrictlySortedBy nat_cmp (index_numbers entries.now) }
     ensures found { IfOk result (λ position. IsAt (index_numbers entries.now) number position) }

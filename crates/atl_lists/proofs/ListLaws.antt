@@ -109,8 +109,8 @@ listed_there lists k xs =
     ap (λ o. unwrap_or o [])
     (get-insert nat_cmp_total lists k xs k ∙ ap (λ b. cond b (Some xs) (get lists k)) (key_itself k))
 
--- putting number n into the list of `key` (`mid`) and taking it out again (`new`) gives the lists of the same units
--- again
+-- if the lists `old` have just the units of each key (AreLists), so do the lists `new`: to `mid`, n is put into the
+-- list of `key`, and to `new`, it is taken out again
 pub AreLists-undone_at : (belongs_to : Unit → ℕ) (units : FinMap nat_cmp Unit) (old mid new : FinMap nat_cmp (List ℕ)) (n key : ℕ)
     → mid ≡ insert old key (put_number n (list_of old key))
     → SameLists new (insert mid key (take_number n (list_of mid key)))
@@ -212,7 +212,7 @@ nobody_bare k = elim (k == 0) as (λ b. list_of empty k ≡ cond b [] (list_of e
   | false ↦ refl
 ]
 
--- the lists of no units are no lists at all
+-- the lists of no units are none at all: by region, by faction and by structure
 pub AreUnitLists-nobody : AreUnitLists empty (record { by_region = empty; by_faction = empty; by_structure = empty })
 AreUnitLists-nobody = record {
   regions = nobody_listed (λ u. u.region);
@@ -282,8 +282,8 @@ module _ (belongs_to : Unit → ℕ) where
       (subst (λ q. AreLists belongs_to (insert units n v) (unlisted_unless (listed_unless old n to q) n q to)) own
       (subst (λ q. AreLists belongs_to (insert units n v) (unlisted_unless (listed_unless old n q (belongs_to u)) n (belongs_to u) q)) goes (relisted units old n u v is lists))))
 
-  -- putting number n into the list of `key` (`mid`) and taking it out again (`new`) gives the lists of the same units
-  -- again, also where `key` is `other` and nothing is done
+  -- if the lists `old` have just the units of each key (AreLists), so do the lists `new`: to `mid`, n is put into the
+  -- list of `key`, and to `new`, it is taken out again. Where `key` is `other`, nothing is done.
   pub AreLists-apart : (units : FinMap nat_cmp Unit) (old mid new : FinMap nat_cmp (List ℕ)) (n key other : ℕ)
       → mid ≡ listed_unless old n key other → SameLists new (unlisted_unless mid n key other)
       → AreLists belongs_to units old → AreLists belongs_to units new

@@ -122,7 +122,8 @@ impl UnitLists {
     }
 }
 
-/// Structure 0 has no list. Without memory nothing changes.
+/// Moves a number from the list of structure `from` to that of `to`; structure 0 has no list, and
+/// nothing changes if both are one. Without memory nothing changes either.
 fn relist_inside(
     alloc: Global,
     lists: &mut Numbered<Numbers>,
@@ -141,7 +142,7 @@ fn relist_inside(
     Ok(())
 }
 
-/// Does nothing where the key is `other`. Without memory nothing changes.
+/// Puts a number into the list under a key, unless that is `other`. Without memory nothing changes.
 fn list_unless(
     alloc: Global,
     lists: &mut Numbered<Numbers>,
@@ -158,7 +159,7 @@ fn list_unless(
     list_number(alloc, lists, key, number)
 }
 
-/// Does nothing where the key is `other`. It takes no memory.
+/// Takes a number out of the list under a key, unless that is `other`. It takes no memory.
 fn unlist_unless(lists: &mut Numbered<Numbers>, number: u32, key: u32, other: u32)
     ensures { SameLists lists.new (unlisted_unless lists.old number key other) }
 {
@@ -188,7 +189,7 @@ fn list_number(
     }
 }
 
-/// Takes a number out of the list under a key, which has it. It takes no memory.
+/// Takes a number out of the list under a key; without a list nothing changes. It takes no memory.
 fn unlist_number(lists: &mut Numbered<Numbers>, key: u32, number: u32)
     ensures { SameLists lists.new
         (map.insert lists.old key (take_number number (list_of lists.old key))) }

@@ -1,7 +1,7 @@
 //! Builds the maps of factions, regions, structures, mail and reports from their rows. A number
 //! that doesn't fit 32 bits (of a kind 16) is read as the largest, and of rows with one number the
 //! last counts. The texts of mail and reports are moved, not copied. Where memory runs out, the
-//! answer is AllocError.
+//! answer is AllocError. Names and pass texts have to keep their rules.
 ghost use Rattle.std.specs.Prelude.{◌≡◌, IfOk, OnOk, true};
 ghost use Rattle.std.specs.List.{list_all};
 ghost use Rattle.atl_world.specs.Names.{name_ok};

@@ -1,6 +1,6 @@
 //! Builds one faction, region or structure, and one name or pass text, from a row. A number that
 //! doesn't fit 32 bits (of a kind 16) is read as the largest. Where memory runs out, the answer is
-//! AllocError. `take_rows` takes all rows out of a list.
+//! AllocError. Names and pass texts have to keep their rules. `take_rows` empties a list of rows.
 ghost use Rattle.std.specs.Prelude.{◌≡◌, IfOk, [], true};
 ghost use Rattle.atl_world.specs.Names.{name_ok, pass_ok};
 ghost use Rattle.atl_campaign.specs.Assembling.{bare_region};

@@ -20,7 +20,7 @@ use std::alloc::{AllocError, Global};
 /// campaign row. Names and pass texts have to keep their rules, and rows of the tables `faction`,
 /// `region`, `unit` and `has` have to be in their ranges. The rows of units, mail and reports are
 /// taken, since names and texts are moved; all other rows stay. AllocError without memory: nothing
-/// is said of the rows then.
+/// is said of the rows then. The world keeps the rules of worlds (`world`), as each does.
 #[tactic(auto, unfolding(crate::specs::FromRows::campaign_of))]
 pub fn assemble(alloc: Global, world: &World, parts: &mut Parts) -> Result<Campaign, AllocError>
     requires one { length parts.old.campaign ≡ 1 }

@@ -12,7 +12,8 @@ use atl_records::{Structure, Unit};
 use std::alloc::AllocError;
 
 impl Campaign {
-    /// The next unit number stays as it is.
+    /// Adds a unit under a number that no unit has, and marks it, its row and all its goods. The
+    /// next unit number stays as it is.
     fn add_unit(&mut self, number: u32, unit: Unit) -> Result<(), AllocError>
         requires { map.get self.old.value.units number ≡ None }
         ensures ok { OnOk result

@@ -38,6 +38,8 @@ fn make_regions(alloc: Global, plans: &Numbered<RegionPlan>) -> Result<Regions, 
     Regions::unmarked_from(alloc, regions)
 }
 
+/// Books of this many things, from 2 to 65,538, with the money and the people of the regions booked
+/// under founding: at most 10^14 of each. There have to be at most 10,000 regions.
 fn founding_books(alloc: Global, things: usize, regions: &Regions) -> Result<Books, AllocError>
     requires few { length (map.entries regions.now.values) ≤ most_regions }
     requires some { 2 ≤ things }

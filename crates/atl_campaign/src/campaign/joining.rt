@@ -25,7 +25,7 @@ use atl_words::LAST_FACTION;
 use atl_world::{MarkedMap, Numbered, Text, World};
 use std::alloc::{AllocError, Global};
 
-/// A faction that is gone keeps its name taken.
+/// Whether a faction, gone or not, joined under exactly this name.
 fn is_taken(factions: &MarkedMap<Faction>, name: &[u8]) -> bool
     ensures { result ≡ list_any (λ e. pointwise nat_eq e.1.joined_as name.now)
         (map.entries factions.now.values) }
@@ -45,6 +45,7 @@ fn home(world: &World, word: u32) -> u32
     land[word as usize % land.len()]
 }
 
+/// One man with the money, named `Unit` and the number, inside no structure and without goods.
 fn make_unit(
     alloc: Global,
     number: u32,
@@ -92,6 +93,7 @@ fn make_faction(alloc: Global, number: u32, name: &[u8], pass: &[u8]) -> Result<
     })
 }
 
+/// Books one man and his money under joining. The books need both things, and room in both amounts.
 fn book_joining(books: &mut Books, money: u32)
     requires things { 2 ≤ books.old.things }
     requires money { LeavesRoomForJoining (amount_in books.old Joining Money) }
@@ -154,8 +156,9 @@ impl Campaign {
         }
     }
 
-    /// Adds the faction and its unit, booked and marked, and returns their numbers, once `join` has
-    /// found the name free and the campaign not full. With AllocError nothing has changed.
+    /// Adds the faction and its unit, booked and marked, and returns their numbers. The campaign
+    /// has to be sound, with a unit number left, and both texts UTF-8. After AllocError nothing has
+    /// changed.
     fn enroll(
         &mut self,
         world: &World,

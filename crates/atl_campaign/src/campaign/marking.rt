@@ -1,5 +1,5 @@
 //! Reads and clears the marks of a campaign: what is to be written. A unit's goods are its items
-//! and days of study.
+//! and days of study. No call here takes memory.
 ghost use Rattle.std.specs.Prelude.{◌≡◌, ◌<◌};
 ghost use Rattle.std.specs.FinMap as map;
 ghost use Rattle.std.specs.FinSet as set;
@@ -13,8 +13,8 @@ use atl_world::{Entries, MarkedNumbers, Numbered};
 
 impl Campaign {
     /// How much is marked as to be written: factions, rows of regions, structures, mail, reports,
-    /// amounts of the books and the campaign row count one each. A unit counts once, whatever of it
-    /// is marked, and so do the stocks of a region. It takes no memory.
+    /// amounts of the books and the campaign row count one each. So do each unit of which anything
+    /// is marked (`units` has all these) and each region of which a stock is (`markets` has these).
     pub fn marks(&self) -> usize
         ensures value { result ≡ marks_in self.now.marks }
         ensures units { AreUnitPartsWithin self.now.marks.units self.now.marks.rows
@@ -33,22 +33,21 @@ impl Campaign {
         named + placed + self.amounts_marked.len() + row
     }
 
-    /// The numbers of the marked factions, in rising order. It takes no memory.
+    /// The numbers of the marked factions, in rising order.
     pub fn marked_factions(&self) -> MarkedNumbers<'_>
         ensures { IsAscendingListOf self.now.marks.factions result }
     {
         self.factions.marked_numbers()
     }
 
-    /// The numbers of the regions whose rows are marked, in rising order. It takes no memory.
+    /// The numbers of the regions whose rows are marked, in rising order.
     pub fn marked_regions(&self) -> MarkedNumbers<'_>
         ensures { IsAscendingListOf self.now.marks.regions result }
     {
         self.regions.marked_rows()
     }
 
-    /// The numbers of the regions all of whose stocks are marked, in rising order. It takes no
-    /// memory.
+    /// The numbers of the regions all of whose stocks are marked, in rising order.
     pub fn marked_stocks(&self) -> MarkedNumbers<'_>
         ensures { IsAscendingListOf self.now.marks.stocks result }
     {
@@ -56,7 +55,7 @@ impl Campaign {
     }
 
     /// The stocks that are marked one by one: the items' numbers by the region's number, in rising
-    /// order. It takes no memory.
+    /// order.
     pub fn marked_stock_items(&self) -> Entries<'_, Numbered<()>>
         ensures { result ≡ map.entries self.now.marks.stock_items }
     {
@@ -64,7 +63,7 @@ impl Campaign {
     }
 
     /// The numbers of the units of which something is marked, in rising order. Units that were
-    /// removed since the last write are among them. It takes no memory.
+    /// removed since the last write are among them.
     pub fn marked_units(&self) -> MarkedNumbers<'_>
         ensures { IsAscendingListOf self.now.marks.units result }
     {
@@ -72,7 +71,7 @@ impl Campaign {
     }
 
     /// The numbers of the units whose rows are marked, in rising order. Units that were removed
-    /// since the last write are among them. It takes no memory.
+    /// since the last write are among them.
     pub fn marked_rows(&self) -> MarkedNumbers<'_>
         ensures { IsAscendingListOf self.now.marks.rows result }
     {
@@ -80,7 +79,7 @@ impl Campaign {
     }
 
     /// The numbers of the units all of whose goods are marked, in rising order. Units that were
-    /// removed since the last write are among them. It takes no memory.
+    /// removed since the last write are among them.
     pub fn marked_goods(&self) -> MarkedNumbers<'_>
         ensures { IsAscendingListOf self.now.marks.goods result }
     {
@@ -88,7 +87,7 @@ impl Campaign {
     }
 
     /// The items that are marked one by one: their numbers by the unit's number, in rising order.
-    /// Those of a unit stay among them when it is removed. It takes no memory.
+    /// Those of a unit stay among them when it is removed.
     pub fn marked_items(&self) -> Entries<'_, Numbered<()>>
         ensures { result ≡ map.entries self.now.marks.items }
     {
@@ -96,14 +95,14 @@ impl Campaign {
     }
 
     /// The skills that are marked one by one: their numbers by the unit's number, in rising order.
-    /// Those of a unit stay among them when it is removed. It takes no memory.
+    /// Those of a unit stay among them when it is removed.
     pub fn marked_skills(&self) -> Entries<'_, Numbered<()>>
         ensures { result ≡ map.entries self.now.marks.skills }
     {
         self.units.marked_skills()
     }
 
-    /// The numbers of the marked structures, in rising order. It takes no memory.
+    /// The numbers of the marked structures, in rising order.
     pub fn marked_structures(&self) -> MarkedNumbers<'_>
         ensures { IsAscendingListOf self.now.marks.structures result }
     {
@@ -111,14 +110,14 @@ impl Campaign {
     }
 
     /// The numbers of the factions whose mail is marked, in rising order. Factions whose mail was
-    /// removed since the last write are among them. It takes no memory.
+    /// removed since the last write are among them.
     pub fn marked_mail(&self) -> MarkedNumbers<'_>
         ensures { IsAscendingListOf self.now.marks.mail result }
     {
         self.mail.marked_numbers()
     }
 
-    /// The numbers of the factions whose report is marked, in rising order. It takes no memory.
+    /// The numbers of the factions whose report is marked, in rising order.
     pub fn marked_reports(&self) -> MarkedNumbers<'_>
         ensures { IsAscendingListOf self.now.marks.reports result }
     {
@@ -141,7 +140,7 @@ impl Campaign {
         self.row_marked
     }
 
-    /// Clears all marks, and changes nothing else. It takes no memory.
+    /// Clears all marks, and changes nothing else.
     pub fn unmark(&mut self)
         ensures { self.new ≡ record self.old { marks = no_marks } }
     {

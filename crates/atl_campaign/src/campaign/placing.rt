@@ -11,7 +11,7 @@ use super::Campaign;
 use atl_lists::{ListKeys, list_keys_of};
 use std::alloc::AllocError;
 
-/// 0 where there is no other.
+/// The first of the numbers that isn't `leaving`; 0 where there is no other.
 fn first_other(numbers: &[u32], leaving: u32) -> u32
     ensures { result ≡ first_other numbers.now leaving }
 {
@@ -43,7 +43,7 @@ impl Campaign {
         first_other(self.inside(structure), leaving)
     }
 
-    /// A `unit` of 0 stands for nobody; false where there is no such structure.
+    /// Whether the unit owns the structure; 0 is nobody. False where there is no such structure.
     fn is_owned_by(&self, structure: u32, unit: u32) -> bool
         ensures { result ≡ is_owned_by (map.get self.now.value.structures structure) unit }
     {
@@ -53,7 +53,7 @@ impl Campaign {
         }
     }
 
-    /// Does nothing unless the structure is there, and `from` owns it; 0 stands for nobody.
+    /// Gives a structure that `from` owns to `to`, and marks it; else does nothing. 0 is nobody.
     fn hand_over(&mut self, structure: u32, from: u32, to: u32)
         ensures { self.new ≡ handed_marked self.old structure from to }
     {
@@ -62,7 +62,7 @@ impl Campaign {
         }
     }
 
-    /// No owner changes.
+    /// Puts a unit in a region and structure (0: none), and marks it and its row. No owner changes.
     fn put(&mut self, number: u32, region: u32, structure: u32) -> Result<(), AllocError>
         ensures ok { OnOk result (self.new ≡ put_marked self.old number region structure) }
         ensures err { OnErr result (self.new ≡ self.old) }
@@ -106,7 +106,7 @@ impl Campaign {
         Ok(())
     }
 
-    /// No owner changes.
+    /// Removes a unit, and marks it, its row and all its goods. No owner changes.
     fn take_unit(&mut self, number: u32)
         ensures { self.new ≡ taken_marked self.old number }
     {

@@ -160,8 +160,7 @@ impl Campaign {
         }
     }
 
-    /// Sets the region of a structure, and marks the structure. The units inside stay where they
-    /// are.
+    /// Sets a structure's region, and marks the structure. The units inside stay where they are.
     pub fn set_structure_region(&mut self, structure: u32, region: u32)
         ensures what { self.new.value ≡ with_structure_region self.old.value structure region }
         ensures marks { self.new.marks ≡ mark_structure self.old structure }
