@@ -231,7 +231,8 @@ is_lower n p = nat_lt p.unit n
 no_lower : (a b : ℕ) → b < a + 1 → nat_lt a b ≡ false
 no_lower a b l = grind (arith, nat_tests, l)
 
--- in a list sorted by their numbers, the units below the one at index `i` are the first `i`; d is any unit
+-- In a list of units with rising numbers, those with lower numbers than the unit at index `i` of the list are the first
+-- `i`. `d` is what a look-up past the end of the list would give.
 pub lower_first : (all : List UpkeepInput) (i : ℕ) (d : UpkeepInput) → AreInOrder all → i < length all
     → filter (is_lower (get_or all i d).unit) all ≡ take i all
 lower_first [] i d order l = absurd (omega (arith, l))
@@ -244,14 +245,12 @@ lower_first (p ∷ ps) (suc i) d order l =
 
 -- ---- the upkeep of all units
 
--- for `upkeep_result_more`: what the units before gave in turn, with what the next one gives, is the lesser of what all
--- these want to give (`before + want`) and the amount to give
+-- what units gave so far with what the next one gives: what all these want to give, at most the amount to give
 next_dealt : (before want amount give : ℕ) → give ≡ amount
     → min before amount + min (give - min before amount) want ≡ min (before + want) amount
 next_dealt before want amount give is = omega (arith, is)
 
--- For `upkeep_result_is`: what a unit gives or gets in turn is what all units up to and with this one give or get
--- together, less what the units before it do.
+-- what a unit gives or gets in turn: what all units up to and with it do together, less what those before it do
 is_dealt : (before want amount give : ℕ) → give ≡ amount
     → min (give - min before amount) want ≡ min (before + want) amount - min before amount
 is_dealt before want amount give is = omega (arith, is)
@@ -274,8 +273,8 @@ module _ (m : ℕ) (all before : List UpkeepInput) (p : UpkeepInput) (accounts :
   to_give_is : to_give now ≡ amount
   to_give_is = gives_all (short_among m p.region p.faction all) (left_among m p.region p.faction all)
 
-  -- after a unit had its turn, each account is that of all units, of which those before it and it had their turn
-  -- (`account_of`)
+  -- Let `a` be the account of the unit's faction in its region after its turn; it is set if it is short. Then each
+  -- account is that of all units (`account_of`), of which `before` and then `p` had their turn.
   pub upkeep_result_more : (a : Account) → a ≡ account_after m (account_at accounts p.region p.faction) p
       → (s g : ℕ)
       → account_at (with_if_short accounts p.region p.faction a) s g ≡ account_of m all (before ++ p ∷ []) s g
