@@ -525,7 +525,7 @@ module _ (w : WorldValue) (begun : CampaignValue) (number faction : ℕ) where
       let next = one_order sail_step w (c, m) t in
       tasks_stay next.0 next.1 ts (task_stays c same m t others.0) others.1
 
--- a unit inside no ship that an order makes sail (`SailsWith`) is unchanged after the phase, if the campaign is steady
+-- if the campaign is steady as the phase begins, a unit that no order of SAIL takes along (`SailsWith`) stays unchanged
 pub others_do_not_sail : (w : WorldValue) (c : CampaignValue) (m : MonthValue) → IsSteady w c
     → others_unaffected (SailsWith w c) IsUnchanged is_sailing w m c (sail_spec.meaning w c m).0
 unfolding meaning_by_orders

@@ -1,6 +1,7 @@
 -- Laws of MOVE: a campaign stays steady, and a unit without an own order of MOVE (one from its faction) is no worse
--- off. It keeps its place, name and guard flag, and loses nothing (`IsNoWorse`). A walk out of a structure has two
--- handovers: of this structure to its next owner, and of structure 0, which isn't there.
+-- off. It has the same faction, region, structure, name and guard flag, and no less men, money, items or days
+-- (`IsNoWorse`). A walk out of a structure has two handovers: of this structure to its next owner, and of structure 0,
+-- which isn't there.
 use Rattle.std.proofs.Common.{◌≡◌, ◌≢◌, ◌==◌, ◌&&◌, ℕ, ◌≤◌, Bool, true, false, not, List, [], ◌∷◌, Option, Some, None, refl, sym, ap, subst, ◌∙◌, arith}
 use Rattle.std.specs.Prelude.{IfSome, nat_lt, option_map, unwrap_or, if◌then◌else◌}
 use Rattle.std.specs.List.{AllByRecursion}

@@ -97,6 +97,6 @@ learn_keeps = others_unaffected IsOwnOrder IsUnchanged is_studying
 abbrev pub study_moves : BookBound
 study_moves = moves_only most_moved Study Money
 
--- the specification of the phase of TEACH and STUDY, which books the fees under study
+-- the specification of the phase of TEACH and STUDY, which books only money under the entry study, by less than 10^14
 abbrev pub learn_spec : PhaseSpec
 learn_spec = books_money Study learn_meaning learn_keeps

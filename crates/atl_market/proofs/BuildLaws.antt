@@ -178,7 +178,6 @@ module _ (w : WorldValue) (c : CampaignValue) (n kind : ℕ) (u : Unit) (k : Kin
   abbrev from_used : CampaignValue → CampaignValue
   from_used d = with_place (with_new_structure d kind k u.region size) n u.region c.next_structure
 
-  -- beginning a structure is using the material, and then adding the structure and moving the unit into it
   begun_is : after_start c n kind k u.region size ≡ from_used after_use
   begun_is = ap from_used (used_is w c n k.material size u is)
 
@@ -241,7 +240,6 @@ module _ (w : WorldValue) (c : CampaignValue) (n : ℕ) (u : Unit) (s : Structur
   abbrev further : CampaignValue → CampaignValue
   further d = with_done d u.structure (s.done + added)
 
-  -- continuing a structure is using the material, and then setting how much of the structure is done
   on_is : after_building_on c n k.material added u.structure (s.done + added) ≡ further paid
   on_is = ap further (used_is w c n k.material added u is)
 
@@ -372,8 +370,9 @@ remaining_within w c can e t = by_thing t
 
 -- ---- the phase
 
--- An order of BUILD that can be read with the world, for a unit of its writer's faction, keeps what BUILD needs, within
--- the bounds on the books. A unit without an order of its own faction is no worse off (`IsOrderly`).
+-- An order of BUILD that can be read with the world, for a unit of its writer's faction, keeps what BUILD needs, the
+-- month and the balance of the books, within the bounds on them. A unit without an order of its own faction is there
+-- and no worse off (`IsOrderly`).
 pub build_orderly : IsOrderly build_step CanBuild build_remaining build_moves IsOwnOrder IsNoWorse
 build_orderly = record {
   well = λ w a c t x can fit own. well w c t.unit x own.there can t.order_value.operands;
