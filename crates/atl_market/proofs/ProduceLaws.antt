@@ -1,8 +1,8 @@
--- Laws of PRODUCE: all shares can be made, and leave a steady campaign steady, with the same month, reports and
--- factions, and balanced books balanced (`LeavesWell`). Units without an order of their own faction are no worse off:
--- they have the same faction, region, structure, name and guard flag, and no less men, money, items or days. `n` is the
--- number of unit `u`, `i` that of item `x`, and `made` how many pieces the unit makes. Shares (`es`) are pairs of a
--- unit's number and how many pieces it makes. `os` are the orders of the phase.
+-- Laws of PRODUCE: all shares can be made, if the books have room, and leave a steady campaign steady, with the same
+-- month, reports and factions, and balanced books balanced (`LeavesWell`). Units without an order of their own faction
+-- are no worse off: they have the same faction, region, structure, name and guard flag, and no less men, money, items
+-- or days. `n` is the number of unit `u`, `i` that of item `x`, and `made` how many pieces the unit makes. Shares
+-- (`es`) are pairs of a unit's number and how many pieces it makes. `os` are the orders of the phase.
 use Rattle.std.proofs.Common.{◌≡◌, ◌≢◌, ◌==◌, ℕ, ◌+◌, ◌-◌, ◌*◌, ◌/◌, ◌≤◌, ◌<◌, Bool, true, false, List, [], ◌∷◌, length, Option, Some, None, is_some, option_map, refl, sym, subst, ◌∙◌, arith}
 use Rattle.std.specs.Prelude.{ℤ, IfSome, fold, min, if◌then◌else◌}
 use Rattle.std.specs.List.{AllByRecursion, slice_get}

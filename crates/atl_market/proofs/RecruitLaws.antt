@@ -1,8 +1,8 @@
--- Laws of RECRUIT: all shares can be given, and leave an early campaign early, with the same month, reports and
--- factions, and balanced books balanced (`LeavesWell`). Units without an order of their own faction are no worse off:
--- they have the same faction, region, structure, name and guard flag, and no less men, money, items or days. `n` is the
--- number of unit `u`, `q` its region, `recruits` how many peasants join the unit, and `cost` the money that it pays for
--- them. `os` are the orders of the phase.
+-- Laws of RECRUIT: all shares can be given, if the books have room, and leave an early campaign early, with the same
+-- month, reports and factions, and balanced books balanced (`LeavesWell`). Units without an order of their own faction
+-- are no worse off: they have the same faction, region, structure, name and guard flag, and no less men, money, items
+-- or days. `n` is the number of unit `u`, `q` its region, `recruits` how many peasants join the unit, and `cost` the
+-- money that it pays for them. `os` are the orders of the phase.
 use Rattle.std.proofs.Common.{◌≡◌, ◌≢◌, ℕ, ◌+◌, ◌-◌, ◌*◌, ◌/◌, ◌≤◌, Some, List, [], ◌∷◌, length, refl, sym, ap, subst, ◌∙◌, arith}
 use Rattle.std.specs.Prelude.{fold, pos, neg_ℤ, min}
 use Rattle.std.specs.Option.{option_map_or}
@@ -200,7 +200,7 @@ module _ (w : WorldValue) (c : CampaignValue) where
             (later_room step_moves w d joined e es well room),
       )
 
-  -- `os` are the orders; the books have room for all that the phase may book (`room`)
+  -- `os` are the orders; `c` is early, and the books have room for all that the phase may book (`room`)
   module _ (early : IsEarly w c) (os : List Task) (room : HaveRoom (recruit_moves most_moved) c) where
     abbrev shares : List (ℕ × ℕ)
     shares = entries (given_by recruit_pots w c os)

@@ -1,8 +1,9 @@
--- Laws of SELL and BUY: all shares can be traded in turn, and leave an early campaign early, with the same month,
--- reports and factions, and balanced books balanced (`LeavesWell`). Units without an order of their own faction are no
--- worse off: they have the same faction, region, structure, name and guard flag, and no less men, money, items or days.
--- `trade` is SELL or BUY, `n` the number of unit `u`, `q` its region, `i` the number of an item, and `m` a market.
--- `share` is how many pieces the unit trades, `stock` the market's stock before that, and `os` the orders of the phase.
+-- Laws of SELL and BUY: all shares can be traded in turn, if the books have room, and leave an early campaign early,
+-- with the same month, reports and factions, and balanced books balanced (`LeavesWell`). Units without an order of
+-- their own faction are no worse off: they have the same faction, region, structure, name and guard flag, and no less
+-- men, money, items or days. `trade` is SELL or BUY, `n` the number of unit `u`, `q` its region, `i` the number of an
+-- item, and `m` a market. `share` is how many pieces the unit trades, `stock` the market's stock before that, and `os`
+-- the orders of the phase.
 use Rattle.std.proofs.Common.{◌≡◌, ◌≢◌, ◌==◌, ◌&&◌, ℕ, ◌+◌, ◌-◌, ◌*◌, ◌/◌, ◌≤◌, ◌<◌, Bool, true, false, cond, Option, Some, None, List, [], ◌∷◌, length, refl, sym, ap, subst, ◌∙◌, arith}
 use Rattle.std.specs.Prelude.{IsSome, fold, pos, ◌+ℤ◌, min, option_and_then, unwrap_or}
 use Rattle.std.specs.Option.{option_map_or}

@@ -1,7 +1,8 @@
--- Laws of WORK: all wages can be paid in turn, and leave a steady campaign steady, with the same month, reports and
--- factions, and balanced books balanced (`LeavesWell`). No unit is worse off: each has the same faction, region,
--- structure, name and guard flag, and no less men, money, items or days. `n` is the number of unit `u`, and `money` its
--- wages. Shares (`es`) are pairs of a unit's number and how many work places it gets. `os` are the orders of the phase.
+-- Laws of WORK: all wages can be paid in turn, if the books have room, and leave a steady campaign steady, with the
+-- same month, reports and factions, and balanced books balanced (`LeavesWell`). No unit is worse off: each has the same
+-- faction, region, structure, name and guard flag, and no less men, money, items or days. `n` is the number of unit
+-- `u`, and `money` its wages. Shares (`es`) are pairs of a unit's number and its number of work places. `os` are the
+-- orders of the phase.
 use Rattle.std.proofs.Common.{◌≡◌, ◌≢◌, ◌==◌, ℕ, ◌+◌, ◌-◌, ◌*◌, ◌/◌, ◌%◌, ◌≤◌, ◌<◌, false, cond, Option, Some, None, List, [], ◌∷◌, length, refl, sym, ap, subst, ◌∙◌, arith}
 use Rattle.std.specs.Prelude.{pos, ◌+ℤ◌, fold}
 use Rattle.std.specs.List.{AllByRecursion}

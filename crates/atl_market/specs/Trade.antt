@@ -52,7 +52,7 @@ abbrev pub has_too_little : Trade → HoldingValue → Market → Bool
 has_too_little Sell h m = amount_of h.items m.item == 0
 has_too_little Buy h m = nat_lt h.money m.price
 
--- the first fault of SELL or BUY after NotYours, if there is one: NoMarket without a market (None), NotEnough
+-- the first fault of SELL or BUY after NotYours, if any: NoMarket without a market (None), NotEnough (`has_too_little`)
 abbrev pub trade_fault : Trade → HoldingValue → Option Market → Option EventFault
 trade_fault trade h None = Some NoMarket
 trade_fault trade h (Some m) = first_fault ((has_too_little trade h m, NotEnough) ∷ [])
