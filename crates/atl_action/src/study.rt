@@ -72,8 +72,8 @@ fn study_fault(holding: &Holding, cost: u64) -> Option<EventFault>
     }
 }
 
-/// Takes the cost from the unit's money, and sets its days of the skill. Where the unit isn't
-/// there, nothing changes.
+/// Takes the cost from the unit's money, which is enough, and sets its days of the skill. Where the
+/// unit isn't there, nothing changes.
 fn pay_and_set_days(
     campaign: &mut Campaign,
     unit: u32,

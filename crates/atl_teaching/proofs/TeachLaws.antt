@@ -65,8 +65,8 @@ module _ (c : CampaignValue) (taught after : TaughtMen) (n given : ℕ) (here : 
   -- A lesson has places for `places` men. Unit `n` is first in turn and gets `given` of the places; `ns` are the units
   -- after unit `n`.
   module _ (places : ℕ) (ns : List ℕ) (is : given ≡ min places (untaught_men c taught n)) (others : AreOthers n ns) where
-    -- the men of unit n who get places and then a lesson to the others, for the places left, leave as many men of each
-    -- unit taught as the whole lesson
+    -- once `given` men of unit n are taught, a lesson to the others, for the places left, leaves as many men of each
+    -- unit taught as one lesson to all
     pub rest_taught : (k : ℕ)
         → after k + taught_in_lesson c after (places - given) ns k
         ≡ taught k + taught_in_lesson c taught places (n ∷ ns) k
