@@ -58,7 +58,6 @@ use Rattle.atl_action.proofs.PeopleLaws.{AreSamePeople, elsewhere, elsewhere_ins
 use Rattle.atl_action.proofs.WalkLaws.{in_each_direction, none_fit}
 use Rattle.atl_action.proofs.TravelLaws.{AreTravelled, IsPut, IsSameStructure, steady-travelled, travelled}
 
--- the structure that a unit is inside; 0 where it isn't there
 abbrev structure_in : Option Unit → ℕ
 structure_in o = option_map_or (λ (x : Unit). x.structure) o 0
 

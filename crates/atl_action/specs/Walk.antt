@@ -49,7 +49,8 @@ walk_fault w u to = first_fault (
 abbrev pub with_unit_moved : (structure to : ℕ) → CampaignValue → (n : ℕ) → CampaignValue
 with_unit_moved structure to c n = with_guard (with_place c n to structure) n false
 
--- the effect of MOVE, Done with 0: unit n walks to the region in this direction; with a fault nothing changes
+-- The effect of MOVE, Done with 0: unit n walks to the region in this direction, inside no structure there, and its
+-- guard flag is cleared. With a fault nothing changes, and the outcome is the fault.
 unfoldable pub walk : WorldValue → (n : ℕ) → Direction → OrderEffect
 walk w n direction c u =
     let to = neighbour w u.region direction in

@@ -170,7 +170,6 @@ module _ (w : WorldValue) (c : CampaignValue) (n kind : ℕ) (u : Unit) (k : Kin
   abbrev size : ℕ
   size = size_added k u.holding 0
 
-  -- the campaign after unit `n` used the material for the new structure
   abbrev after_use : CampaignValue
   after_use = used w c n k.material size u is
 
@@ -333,7 +332,6 @@ module _ (w : WorldValue) (c : CampaignValue) (n : ℕ) (u : Unit) (is : get c.u
 
 -- ---- what BUILD may still book
 
--- what BUILD may still book is within the bound of the whole phase: less than 10^14 used of each item (`build_moves`)
 remaining_within : (w : WorldValue) (c : CampaignValue) → CanBuild w c → (e : BooksEntry) (t : Thing)
     → build_remaining c e t ≤ build_moves e t
 remaining_within w c can e t = by_thing t
@@ -438,8 +436,8 @@ begun_outcome c n kind k region size = (after_start c n kind k region size, Done
 abbrev continued_outcome : CampaignValue → (n material size structure done : ℕ) → CampaignValue × Outcome
 continued_outcome c n material size structure done = (after_building_on c n material size structure done, Done size)
 
--- Where `BUILD kind` of faction `f` for its unit `n` has no fault, the code's campaign `d` and its outcome `Done says`
--- are those of the order's definition (`begin`). `size` is how much the unit adds.
+-- Where `BUILD kind` of faction `f` for its unit `n` has no fault, the order's definition (`begin`) gives campaign `d`,
+-- in which the structure is begun (`after_start`), and Done with `says`. `size` and `says` are how much the unit adds.
 pub begin_done : (w : WorldValue) (c d : CampaignValue) (f n kind : ℕ) (u : Unit) (k : Kind) (size says : ℕ)
     → of_faction f (get c.units n) ≡ Some u → begin_fault w c u k ≡ None
     → d ≡ after_start c n kind k u.region size → says ≡ size → size ≡ size_added k u.holding 0
@@ -450,8 +448,9 @@ begin_done w c d f n kind u k size says is none first asked_is size_is =
     let chain : faction_effect (begin w n kind k) c f n ≡ whole = ap (effect_on (begin w n kind k) c) is ∙ ap (λ o. fault_or c o whole) none in
     rw (first, asked_is, size_is) (sym chain)
 
--- Where `BUILD` of faction `f` for its unit `n` inside structure `s` has no fault, the code's campaign `d` and its
--- outcome `Done says` are those of the order's definition (`go_on`). `size` is how much the unit adds.
+-- Where `BUILD` of faction `f` for its unit `n` inside structure `s` has no fault, the order's definition (`go_on`)
+-- gives campaign `d`, in which more is done (`after_building_on`), and Done with `says`. `size` and `says` are how much
+-- the unit adds.
 pub go_on_done : (w : WorldValue) (c d : CampaignValue) (f n : ℕ) (u : Unit) (s : Structure) (k : Kind) (size says : ℕ)
     → of_faction f (get c.units n) ≡ Some u → get c.structures u.structure ≡ Some s → slice_get w.kinds s.kind ≡ Some k
     → inside_fault u s k ≡ None → d ≡ after_building_on c n k.material size u.structure (s.done + size) → says ≡ size

@@ -129,7 +129,8 @@ go_on_at c n u (Some (s, k)) =
     let size = size_added k u.holding s.done in
     fault_or c (inside_fault u s k) (after_building_on c n k.material size u.structure (s.done + size), Done size)
 
--- the effect of `BUILD` by unit `n`: it continues the structure that it is inside; with a fault nothing changes
+-- The effect of `BUILD` by unit `n`: it continues the structure that it is inside. With a fault nothing changes, and
+-- the outcome is the fault.
 unfoldable pub go_on : WorldValue → (n : ℕ) → OrderEffect
 go_on w n c u = go_on_at c n u (structure_and_kind_at w c u.structure)
 

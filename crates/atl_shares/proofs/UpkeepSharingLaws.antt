@@ -132,8 +132,8 @@ no_accounts m s g = rw (get-empty nat_cmp s, get-empty nat_cmp g) refl
 pub none_short : (m s g : ℕ) → (account_at empty s g).short ≤ most_per_head * men_limit * 0
 none_short m s g = rw (no_accounts m s g) (omega arith)
 
--- `m` is the maintenance of each man. The units `before` are counted in `accounts`, and unit `p` is the next one.
--- Account `a` is that of the faction of `p` in the region of `p`, with `p` counted.
+-- `m` is the maintenance of each man. The units `before` are counted in `accounts`, and unit `p` is the next one. `a`
+-- is the account of the faction of `p` in the region of `p`, with `p` counted; it is set in the map if it is short.
 module _ (m : ℕ) (before : List UpkeepInput) (p : UpkeepInput) (accounts : FactionAccounts) (a : Account) where
   -- if each account has what the units `before` are short of, then with unit `p` counted each has what they and `p` are
   -- short of
@@ -185,8 +185,8 @@ module _ (m : ℕ) (before : List UpkeepInput) (p : UpkeepInput) (accounts : Fac
           ap (λ n. n + left_of m p) (counted (all_short all) _ false some) ∙ sym (more_own (left_of m) before p)
           ∙ sym (counted (all_short all) _ false some)
 
--- Let each account be short of at most what `n` units can be short of, and unit p of at most what one can be. Once p is
--- counted, and its account becomes `a`, each is short of at most what `n + 1` units can be.
+-- Let each account be short of at most what `n` units can be short of, and unit p of at most what one can be. With p
+-- counted, its account is `a`, which is set if it is short. Then each is short of at most what `n + 1` units can be.
 pub few_short : (m n : ℕ) (accounts : FactionAccounts) (p : UpkeepInput) (a : Account)
     → short_of m p ≤ most_per_head * men_limit
     → ((s g : ℕ) → (account_at accounts s g).short ≤ most_per_head * men_limit * n)
@@ -199,7 +199,7 @@ few_short m n accounts p a short each is =
     (λ none. omega (arith, old)) (λ some. rw is (omega (arith, old, short))) (λ s g apart. omega (arith, each s g))
 
 -- Let each account have at most as much money left as `n` units can have, and unit p at most as much as one can have.
--- Once p is counted, and its account becomes `a`, each has at most as much left as `n + 1` units can have.
+-- With p counted, its account is `a`, which is set if it is short. Then each has at most what `n + 1` units can have.
 pub few_left : (m n : ℕ) (accounts : FactionAccounts) (p : UpkeepInput) (a : Account) → left_of m p ≤ holding_limit
     → ((s g : ℕ) → (account_at accounts s g).left ≤ holding_limit * n)
     → a ≡ record (account_at accounts p.region p.faction) { left = (account_at accounts p.region p.faction).left + left_of m p }
