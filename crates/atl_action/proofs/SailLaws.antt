@@ -403,7 +403,8 @@ sail_moves_at_most w c n u direction steady k v there =
     (λ to x at floats whole near. sailed_at_most_moved w c u.structure to steady x at k v there)
 
 -- In a steady campaign a SAIL for a unit of its writer's faction changes units at most as `IsAtMostMoved` allows. If it
--- can be read with the world, the campaign stays steady, in its month and in balance, and nothing is booked.
+-- can be read with the world, the campaign stays steady, with the same month, reports and set of factions. Balanced
+-- books stay balanced, and nothing is booked.
 pub sail_orderly : IsOrderly sail_step IsSteady nothing_remaining moves_nothing affects_nobody IsAtMostMoved
 sail_orderly = record {
   well = λ w a c t x steady fit own. in_each_direction (λ effect. StepsWell IsSteady nothing_remaining w c (effect c x).0) (sail w t.unit) t.order_value.operands (λ direction. sail_well w c t.unit x direction steady);
