@@ -58,7 +58,6 @@ use Rattle.atl_action.proofs.PeopleLaws.{AreSamePeople, elsewhere, elsewhere_ins
 use Rattle.atl_action.proofs.WalkLaws.{in_each_direction, none_fit}
 use Rattle.atl_action.proofs.TravelLaws.{AreTravelled, IsPut, IsSameStructure, steady-travelled, travelled}
 
--- the structure that a unit is inside; 0 where it isn't there
 abbrev structure_in : Option Unit → ℕ
 structure_in o = option_map_or (λ (x : Unit). x.structure) o 0
 
@@ -404,7 +403,8 @@ sail_moves_at_most w c n u direction steady k v there =
     (λ to x at floats whole near. sailed_at_most_moved w c u.structure to steady x at k v there)
 
 -- In a steady campaign a SAIL for a unit of its writer's faction changes units at most as `IsAtMostMoved` allows. If it
--- can be read with the world, the campaign stays steady, in its month and in balance, and nothing is booked.
+-- can be read with the world, the campaign stays steady, with the same month, reports and set of factions. Balanced
+-- books stay balanced, and nothing is booked.
 pub sail_orderly : IsOrderly sail_step IsSteady nothing_remaining moves_nothing affects_nobody IsAtMostMoved
 sail_orderly = record {
   well = λ w a c t x steady fit own. in_each_direction (λ effect. StepsWell IsSteady nothing_remaining w c (effect c x).0) (sail w t.unit) t.order_value.operands (λ direction. sail_well w c t.unit x direction steady);
@@ -525,7 +525,7 @@ module _ (w : WorldValue) (begun : CampaignValue) (number faction : ℕ) where
       let next = one_order sail_step w (c, m) t in
       tasks_stay next.0 next.1 ts (task_stays c same m t others.0) others.1
 
--- a unit inside no ship that an order makes sail (`SailsWith`) is unchanged after the phase, if the campaign is steady
+-- if the campaign is steady as the phase begins, a unit that no order of SAIL takes along (`SailsWith`) stays unchanged
 pub others_do_not_sail : (w : WorldValue) (c : CampaignValue) (m : MonthValue) → IsSteady w c
     → others_unaffected (SailsWith w c) IsUnchanged is_sailing w m c (sail_spec.meaning w c m).0
 unfolding meaning_by_orders

@@ -190,7 +190,8 @@ money_most : (w : WorldValue) (c : CampaignValue) → IsSteady w c → (e : Book
 money_most w c steady e t = let most = all_held_within w c steady Money in grind arith
 
 -- In a steady campaign a STUDY for a unit of its writer's faction changes no other unit. If it can be read with the
--- world, the campaign stays steady, in its month and in balance, and no more is booked than the unit pays.
+-- world, the campaign stays steady, with the same month, reports and set of factions. Balanced books stay balanced, and
+-- no more is booked than the unit pays. All units together can't pay more than the phase may book.
 pub study_orderly : (taught : TaughtMen)
     → IsOrderly (study_step taught) IsSteady study_remaining study_moves IsOwnOrder IsUnchanged
 study_orderly taught = record {

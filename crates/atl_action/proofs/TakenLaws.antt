@@ -24,7 +24,6 @@ use Rattle.atl_action.specs.Walk.{by_direction, is_walking, walk, walk_spec, wal
 
 -- ---- MOVE and SAIL
 
--- the phase passes over no order of MOVE
 walk_takes : TakesThose walk_step is_walking all_orders
 walk_takes w a t of_phase fit = by_verb t.order_value.verb t.order_value.operands of_phase fit.shape
   where
@@ -38,7 +37,6 @@ walk_takes w a t of_phase fit = by_verb t.order_value.verb t.order_value.operand
 pub walk_gives : Gives (λ counts t. report_if (is_walking t.order_value.verb && counts && true) t) walk_spec.meaning
 walk_gives = gives_by_orders walk_step is_walking all_orders walk_takes
 
--- the phase passes over no order of SAIL
 sail_takes : TakesThose sail_step is_sailing all_orders
 sail_takes w a t of_phase fit = by_verb t.order_value.verb t.order_value.operands of_phase fit.shape
   where
@@ -59,7 +57,6 @@ pub study_shape : (v : Verb) (o : OperandsValue) → is_studying v ≡ true → 
 study_shape verbs.Study o of_phase fits = fits
 study_shape v o of_phase fits = cc
 
--- the phase passes over no order of STUDY
 study_takes : (taught : TaughtMen) → TakesThose (study_step taught) is_studying all_orders
 study_takes taught w a t of_phase fit = by_verb t.order_value.verb t.order_value.operands of_phase fit.shape
   where
@@ -71,19 +68,16 @@ study_takes taught w a t of_phase fit = by_verb t.order_value.verb t.order_value
 
 -- `learning` has by unit the skill that it learns
 module _ (c : CampaignValue) (learning : Learning) (m : MonthValue) where
-  -- the orders of TEACH keep the mailings
   lessons_keep_readings : (after_lessons c learning m).1.readings ≡ m.readings
   unfolding after_lessons
   lessons_keep_readings =
       fold_keeps (λ x. x.readings) (teach_order c learning) (λ p t. refl) (orders_by_unit is_teaching m) ((λ n. 0), m)
 
-  -- the orders of TEACH keep the aliases
   lessons_keep_aliases : (after_lessons c learning m).1.aliases ≡ m.aliases
   unfolding after_lessons
   lessons_keep_aliases =
       fold_keeps (λ x. x.aliases) (teach_order c learning) (λ p t. refl) (orders_by_unit is_teaching m) ((λ n. 0), m)
 
-  -- the orders of TEACH add an event each
   lessons_add : map report_of (after_lessons c learning m).1.events
       ≡ map report_of m.events ++ map report_for (orders_by_unit is_teaching m)
   unfolding after_lessons

@@ -1,6 +1,7 @@
 -- Laws of MOVE: a campaign stays steady, and a unit without an own order of MOVE (one from its faction) is no worse
--- off. It keeps its place, name and guard flag, and loses nothing (`IsNoWorse`). A walk out of a structure has two
--- handovers: of this structure to its next owner, and of structure 0, which isn't there.
+-- off. It has the same faction, region, structure, name and guard flag, and no less men, money, items or days
+-- (`IsNoWorse`). A walk out of a structure has two handovers: of this structure to its next owner, and of structure 0,
+-- which isn't there.
 use Rattle.std.proofs.Common.{◌≡◌, ◌≢◌, ◌==◌, ◌&&◌, ℕ, ◌≤◌, Bool, true, false, not, List, [], ◌∷◌, Option, Some, None, refl, sym, ap, subst, ◌∙◌, arith}
 use Rattle.std.specs.Prelude.{IfSome, nat_lt, option_map, unwrap_or, if◌then◌else◌}
 use Rattle.std.specs.List.{AllByRecursion}
@@ -299,7 +300,8 @@ walk_stays w c n u direction k apart =
     changed_else (λ (x : Unit). record x { holding = record x.holding { guard = false } }) (with_place c n to 0).units n k apart (get (with_place c n to 0).units n) ∙ place_stays c n to 0 k apart)
 
 -- In a steady campaign a MOVE for a unit of its writer's faction leaves no other unit worse off. If it can be read with
--- the world, the campaign stays steady, in its month and in balance, and nothing is booked.
+-- the world, the campaign stays steady, with the same month, reports and set of factions. Balanced books stay balanced,
+-- and nothing is booked.
 pub walk_orderly : IsOrderly walk_step IsSteady nothing_remaining moves_nothing IsOwnOrder IsNoWorse
 walk_orderly = record {
   well = λ w a c t x steady fit own. in_each_direction (λ effect. StepsWell IsSteady nothing_remaining w c (effect c x).0) (walk w t.unit) t.order_value.operands (λ direction. walk_well w c t.unit x own.there direction steady);

@@ -89,8 +89,8 @@ sail_fault w c n u ship to = first_fault (
 unfoldable pub after_sailing : CampaignValue → (ship to : ℕ) → CampaignValue
 after_sailing c ship to = with_structure_region (fold (with_unit_moved ship to) c (numbers_inside ship c.units)) ship to
 
--- the effect of SAIL, Done with 0: the ship that unit n is inside goes in this direction with all units inside; with a
--- fault nothing changes
+-- The effect of SAIL, Done with 0: the ship that unit n is inside goes in this direction with all units inside, whose
+-- guard flags are cleared. With a fault nothing changes, and the outcome is the fault.
 unfoldable pub sail : WorldValue → (n : ℕ) → Direction → OrderEffect
 sail w n direction c u =
     let to = neighbour w u.region direction in

@@ -60,8 +60,8 @@ abbrev pub after_study : CampaignValue → (n : ℕ) → Unit → (skill cost da
 after_study c n u s cost days =
     with_booking (with_holding_at c n (with_study u.holding s cost days) (Some u)) Study Money (neg_ℤ (pos cost))
 
--- the effect of STUDY: a unit with `taught` men taught pays the fee and gains days, and the outcome is Done with the
--- days gained; with a fault nothing changes
+-- The effect of STUDY for unit n, of whose men `taught` were taught: it pays the fee for each man and gains days of the
+-- skill, and Done says how many. With a fault nothing changes, and the outcome is the fault.
 unfoldable pub study : WorldValue → (taught n skill : ℕ) → OrderEffect
 study w taught n s c u =
     let cost = fee_of w s * u.holding.men in
@@ -81,7 +81,8 @@ study_step taught w aliases t = study_effect w taught t.unit t.order_value.opera
 
 -- ---- the phase
 
--- the effect of the phase of TEACH and STUDY: all orders of TEACH are carried out, and then all orders of STUDY
+-- The effect of the phase of TEACH and STUDY: all orders of TEACH that count are carried out, for the units that are
+-- learning as the phase begins, and then all of STUDY that count, with how many men of each unit were taught.
 abbrev pub learn_meaning : Meaning
 learn_meaning w c m =
     let lessons = after_lessons c (learners w c m) m in
@@ -97,6 +98,6 @@ learn_keeps = others_unaffected IsOwnOrder IsUnchanged is_studying
 abbrev pub study_moves : BookBound
 study_moves = moves_only most_moved Study Money
 
--- the specification of the phase of TEACH and STUDY, which books the fees under study
+-- the specification of the phase of TEACH and STUDY, which books only money under the entry study, by less than 10^14
 abbrev pub learn_spec : PhaseSpec
 learn_spec = books_money Study learn_meaning learn_keeps

@@ -1,6 +1,5 @@
 -- A law: a unit that studies pays and learns by what it had as the phase began, and by how many of its men were taught,
--- in whichever order units study.
--- See docs/RULES.md, "Learning".
+-- in whichever order units study. See docs/RULES.md, "Learning".
 use Rattle.std.specs.Prelude.{◌≡◌, ℕ, Option, Some}
 use Rattle.std.specs.List.{Contains}
 use Rattle.std.specs.FinMap.{get}

@@ -43,12 +43,14 @@ walk_fault w u to = first_fault (
     ∷ (nat_lt (carried_by w u.holding) (goods_weight w u.holding), TooHeavy)
     ∷ [])
 
--- The campaign with unit n in region `to` and inside this structure there, or none for 0, and its guard flag cleared.
--- If it changes its structure, owners change as `with_place` says. Where there is no unit n, nothing changes.
+-- The campaign with unit n in region `to` and inside this structure there, or none for 0, and its guard flag cleared. A
+-- structure that it owned and leaves gets its next owner, and one without an owner that it enters becomes its own.
+-- Where there is no unit n, nothing changes.
 abbrev pub with_unit_moved : (structure to : ℕ) → CampaignValue → (n : ℕ) → CampaignValue
 with_unit_moved structure to c n = with_guard (with_place c n to structure) n false
 
--- the effect of MOVE, Done with 0: unit n walks to the region in this direction; with a fault nothing changes
+-- The effect of MOVE, Done with 0: unit n walks to the region in this direction, inside no structure there, and its
+-- guard flag is cleared. With a fault nothing changes, and the outcome is the fault.
 unfoldable pub walk : WorldValue → (n : ℕ) → Direction → OrderEffect
 walk w n direction c u =
     let to = neighbour w u.region direction in
@@ -66,6 +68,7 @@ walk_step w aliases t = by_direction (walk w t.unit) t.order_value.operands
 -- ---- the phase
 
 -- The specification of the phase of MOVE, which carries its orders out one by one, and books nothing. A unit for which
--- no MOVE of its own faction counts keeps its faction, place, name and guard flag, and loses nothing (`IsNoWorse`).
+-- no MOVE of its own faction counts is there after it, with the same faction, region, structure, name and guard flag,
+-- and no less men, money, items or days (`IsNoWorse`).
 abbrev pub walk_spec : PhaseSpec
 walk_spec = goes_by_orders walk_step is_walking IsOwnOrder IsNoWorse

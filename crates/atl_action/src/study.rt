@@ -47,8 +47,9 @@ fn is_helpful(world: &World, skill: u16, structure: Option<&Structure>) -> bool
     }
 }
 
-/// The days of a skill after a month of study, over all men together, as are the `old` ones.
-/// `taught` is how many men were taught, `helped` whether their structure helps the skill.
+/// The days of a skill after a month of study, over all men together, as are the `old` ones; at
+/// most 450 for each man. `taught` is how many men were taught, `helped` whether their structure
+/// helps the skill.
 fn days_after(men: u32, old: u32, taught: u32, helped: bool) -> u32
     requires { men ≤ men_limit }
     ensures { result ≡ days_after men old taught helped }
@@ -71,8 +72,8 @@ fn study_fault(holding: &Holding, cost: u64) -> Option<EventFault>
     }
 }
 
-/// Takes the cost from the unit's money, and sets its days of the skill. Where the unit isn't
-/// there, nothing changes.
+/// Takes the cost from the unit's money, which is enough, and sets its days of the skill. Where the
+/// unit isn't there, nothing changes.
 fn pay_and_set_days(
     campaign: &mut Campaign,
     unit: u32,

@@ -11,8 +11,7 @@ use atl_phase::{Month, OrderPhase, PhaseOrder, PhaseVerbs, PlainPhase, fault_out
 use atl_world::World;
 use std::alloc::{AllocError, Global};
 
-/// The phase of MOVE: units walk to neighbouring regions with land.
-/// See docs/RULES.md, "Walking".
+/// The phase of MOVE: units walk to neighbouring regions with land. See docs/RULES.md, "Walking".
 #[derive(Drop, Clone, Copy)]
 pub struct MovePhase;
 

@@ -42,8 +42,6 @@ use Rattle.atl_market.proofs.WantLaws.{given_is_named}
 
 -- ---- what a trade leaves to unit and stock
 
--- a unit's holding with the result of a trade is the holding that the definition gives (`with_trade`), whatever the
--- stock is
 trade_is : (trade : Trade) (h : HoldingValue) (stock share : ℕ) (m : Market)
     → with_trade_result h m.item (trade_result_of trade h stock share m) ≡ with_trade trade h share m
 trade_is Sell h stock share m = refl

@@ -170,7 +170,6 @@ module _ (w : WorldValue) (c : CampaignValue) (n kind : ℕ) (u : Unit) (k : Kin
   abbrev size : ℕ
   size = size_added k u.holding 0
 
-  -- the campaign after unit `n` used the material for the new structure
   abbrev after_use : CampaignValue
   after_use = used w c n k.material size u is
 
@@ -178,7 +177,6 @@ module _ (w : WorldValue) (c : CampaignValue) (n kind : ℕ) (u : Unit) (k : Kin
   abbrev from_used : CampaignValue → CampaignValue
   from_used d = with_place (with_new_structure d kind k u.region size) n u.region c.next_structure
 
-  -- beginning a structure is using the material, and then adding the structure and moving the unit into it
   begun_is : after_start c n kind k u.region size ≡ from_used after_use
   begun_is = ap from_used (used_is w c n k.material size u is)
 
@@ -241,7 +239,6 @@ module _ (w : WorldValue) (c : CampaignValue) (n : ℕ) (u : Unit) (s : Structur
   abbrev further : CampaignValue → CampaignValue
   further d = with_done d u.structure (s.done + added)
 
-  -- continuing a structure is using the material, and then setting how much of the structure is done
   on_is : after_building_on c n k.material added u.structure (s.done + added) ≡ further paid
   on_is = ap further (used_is w c n k.material added u is)
 
@@ -335,7 +332,6 @@ module _ (w : WorldValue) (c : CampaignValue) (n : ℕ) (u : Unit) (is : get c.u
 
 -- ---- what BUILD may still book
 
--- what BUILD may still book is within the bound of the whole phase: less than 10^14 used of each item (`build_moves`)
 remaining_within : (w : WorldValue) (c : CampaignValue) → CanBuild w c → (e : BooksEntry) (t : Thing)
     → build_remaining c e t ≤ build_moves e t
 remaining_within w c can e t = by_thing t
@@ -372,8 +368,9 @@ remaining_within w c can e t = by_thing t
 
 -- ---- the phase
 
--- An order of BUILD that can be read with the world, for a unit of its writer's faction, keeps what BUILD needs, within
--- the bounds on the books. A unit without an order of its own faction is no worse off (`IsOrderly`).
+-- An order of BUILD that can be read with the world, for a unit of its writer's faction, keeps what BUILD needs, the
+-- month and the balance of the books, within the bounds on them. A unit without an order of its own faction is there
+-- and no worse off (`IsOrderly`).
 pub build_orderly : IsOrderly build_step CanBuild build_remaining build_moves IsOwnOrder IsNoWorse
 build_orderly = record {
   well = λ w a c t x can fit own. well w c t.unit x own.there can t.order_value.operands;
@@ -439,8 +436,8 @@ begun_outcome c n kind k region size = (after_start c n kind k region size, Done
 abbrev continued_outcome : CampaignValue → (n material size structure done : ℕ) → CampaignValue × Outcome
 continued_outcome c n material size structure done = (after_building_on c n material size structure done, Done size)
 
--- Where `BUILD kind` of faction `f` for its unit `n` has no fault, the code's campaign `d` and its outcome `Done says`
--- are those of the order's definition (`begin`). `size` is how much the unit adds.
+-- Where `BUILD kind` of faction `f` for its unit `n` has no fault, the order's definition (`begin`) gives campaign `d`,
+-- in which the structure is begun (`after_start`), and Done with `says`. `size` and `says` are how much the unit adds.
 pub begin_done : (w : WorldValue) (c d : CampaignValue) (f n kind : ℕ) (u : Unit) (k : Kind) (size says : ℕ)
     → of_faction f (get c.units n) ≡ Some u → begin_fault w c u k ≡ None
     → d ≡ after_start c n kind k u.region size → says ≡ size → size ≡ size_added k u.holding 0
@@ -451,8 +448,9 @@ begin_done w c d f n kind u k size says is none first asked_is size_is =
     let chain : faction_effect (begin w n kind k) c f n ≡ whole = ap (effect_on (begin w n kind k) c) is ∙ ap (λ o. fault_or c o whole) none in
     rw (first, asked_is, size_is) (sym chain)
 
--- Where `BUILD` of faction `f` for its unit `n` inside structure `s` has no fault, the code's campaign `d` and its
--- outcome `Done says` are those of the order's definition (`go_on`). `size` is how much the unit adds.
+-- Where `BUILD` of faction `f` for its unit `n` inside structure `s` has no fault, the order's definition (`go_on`)
+-- gives campaign `d`, in which more is done (`after_building_on`), and Done with `says`. `size` and `says` are how much
+-- the unit adds.
 pub go_on_done : (w : WorldValue) (c d : CampaignValue) (f n : ℕ) (u : Unit) (s : Structure) (k : Kind) (size says : ℕ)
     → of_faction f (get c.units n) ≡ Some u → get c.structures u.structure ≡ Some s → slice_get w.kinds s.kind ≡ Some k
     → inside_fault u s k ≡ None → d ≡ after_building_on c n k.material size u.structure (s.done + size) → says ≡ size

@@ -1,5 +1,6 @@
 -- Laws of BUILD: moving a unit into another structure of its region, or on land out of its structure, keeps what BUILD
--- needs (`CanBuild`). `c` is the campaign before the move, which has what BUILD needs (`can`).
+-- needs (`CanBuild`), the month, the balance of the books, and what BUILD may still book. `c` is the campaign before
+-- the move, which has what BUILD needs (`can`).
 use Rattle.std.proofs.Common.{◌≡◌, ◌≢◌, ℕ, ◌+◌, false, true, Some, refl, sym, subst, arith}
 use Rattle.std.specs.FinMap.{get}
 use Rattle.atl_world.specs.Worlds.{WorldValue}

@@ -148,7 +148,8 @@ module _ (w : WorldValue) (c : CampaignValue) (n item amount : ℕ) (u : Unit) (
         (sum_falls_with_term (build_remaining used e t) (build_remaining c e t) (f u) (f user) (use_bound item amount e t) (sum_over-insert_known f c.units n u user is) (usable_less u.holding item amount enough e t))
         (near_more (moves_only amount Used (Item item) e t) (use_bound item amount e t) (amount_in c.books e t) (amount_in used.books e t) (only_used item amount e t) (well.near e t))
 
-    -- using the item keeps what BUILD needs (`CanBuild`), within what BUILD may still book (`StepsWell`)
+    -- using the item keeps what BUILD needs (`CanBuild`), the month and the balance of the books; no amount moves
+    -- further than `build_remaining` falls (`StepsWell`)
     pub used_for_well : StepsWell CanBuild build_remaining w c used
     used_for_well = record {
       holds_still = record { steady = well.leaves_it; kinds = can.kinds };

@@ -76,9 +76,10 @@ module _ (w : WorldValue) (c : CampaignValue) (n : ℕ) (u : Unit) (q : Region) 
           ap pos (same (total exchanged (Item i)) (total left (Item i)) (total supplied (Item i)) (total c (Item i)) (amount_of q.stocks i) (amount_of (f q).stocks i) (amount_of u.holding.items i) (amount_of more.items i) s a b (keeps.items i))
           ∙ sym (none_booked (total c (Item i)) i)
 
-  -- An exchange keeps an early campaign early and its books balanced, if the unit may hold `more`, which sets no guard
-  -- flag, the change of the region keeps the campaign steady, and at most `limit` money is booked (`LeavesWell`). Unit
-  -- and region must together have what they had, plus the money booked (`KeepsTogether`).
+  -- An exchange keeps an early campaign early, with the same month, reports and factions, and its books balanced
+  -- (`LeavesWell`). This supposes that the unit may hold `more`, which sets no guard flag, and that the change of the
+  -- region keeps the campaign steady. At most `limit` money is booked, and unit and region together have what they had,
+  -- plus the money booked (`KeepsTogether`).
   pub exchange_well : (limit : ℕ) → MayHave w more → (more.guard ≡ true → u.holding.guard ≡ true)
       → (IsSteady w supplied → IsSteady w left) → KeepsTogether u q f more z → IsWithin limit z → IsEarly w c
       → LeavesWell IsEarly (moves_only limit entry Money) w c exchanged

@@ -35,8 +35,6 @@ use Rattle.atl_market.specs.Goods.{with_made, with_used}
 use Rattle.atl_market.specs.Making.{CanMake, CanUse}
 use Rattle.atl_market.proofs.ThereLaws.{by_unit, unit_there}
 
--- for `total_of`: the new total `x` is the old total `t` plus `z`, if amount `a` takes the place of `l`, and `a` is `l`
--- plus `z`
 total_moves_with_amount : (x y t k a l : ℕ) (z : ℤ) → x ≡ y → y + k ≡ t + a → k ≡ l → pos a ≡ pos l +ℤ z
     → pos x ≡ pos t +ℤ z
 total_moves_with_amount x y t k a l z e f g h = omega (arith, ints, e, f, g, h)
@@ -156,7 +154,7 @@ module _ (w : WorldValue) (c : CampaignValue) (n i k : ℕ) where
   held_within : (u : Unit) → get c.units n ≡ Some u → IsSteady w c → amount_of u.holding.items i ≤ holding_limit
   held_within u is steady = amount_within u.holding i (steady.numbers.units n u is).1
 
-  -- using at most `limit` of an item of the world that a unit holds keeps a steady campaign steady (`LeavesWell`)
+  -- using at most `limit` of an item of the world that a unit holds keeps a steady campaign steady, and books just that
   pub used_up_to : (limit : ℕ) → k ≤ limit → (u : Unit) → get c.units n ≡ Some u → i < length w.items
       → k ≤ amount_of u.holding.items i → IsSteady w c
       → LeavesWell IsSteady (moves_only limit entries.Used (Item i)) w c (with_used c n i k)

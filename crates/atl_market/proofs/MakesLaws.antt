@@ -20,7 +20,6 @@ use Rattle.atl_market.proofs.WantLaws.{GivesToWants}
 -- ---- entries with other amounts under the same numbers
 
 module _ (f : ℕ × ℕ → ℕ) where
-  -- some entries with what `f` gives of each in the place of its amount
   abbrev instead : List (ℕ × ℕ) → List (ℕ × ℕ)
   instead es = map (λ e. (e.0, f e)) es
 

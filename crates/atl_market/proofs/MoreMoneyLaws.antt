@@ -1,4 +1,5 @@
--- Laws of a campaign in which one unit has more money: other units stay as they are, and nobody is worse off.
+-- Laws of a campaign in which one unit has more money: other units stay as they are, and nobody is worse off. Each unit
+-- has the same faction, region, structure, name and guard flag, and no less men, money, items or days.
 use Rattle.std.proofs.Common.{◌≡◌, ◌≢◌, ℕ, ◌+◌, Some, refl, sym, ap, subst, ◌∙◌, inl, inr, arith}
 use Rattle.std.specs.FinMap.{get, insert}
 use Rattle.std.proofs.lemmas.Bool.{cases_eq}

@@ -1,6 +1,8 @@
--- Laws of PRODUCE: it keeps a campaign steady and its books balanced, and units without an order are no worse off; all
--- shares can be made. `n` is the number of unit `u`, `i` that of item `x`, and `made` how many pieces the unit makes.
--- Shares (`es`) are pairs of a unit's number and how many pieces it makes. `os` are the orders of the phase.
+-- Laws of PRODUCE: all shares can be made, if the books have room, and leave a steady campaign steady, with the same
+-- month, reports and factions, and balanced books balanced (`LeavesWell`). Units without an order of their own faction
+-- are no worse off: they have the same faction, region, structure, name and guard flag, and no less men, money, items
+-- or days. `n` is the number of unit `u`, `i` that of item `x`, and `made` how many pieces the unit makes. Shares
+-- (`es`) are pairs of a unit's number and how many pieces it makes. `os` are the orders of the phase.
 use Rattle.std.proofs.Common.{◌≡◌, ◌≢◌, ◌==◌, ℕ, ◌+◌, ◌-◌, ◌*◌, ◌/◌, ◌≤◌, ◌<◌, Bool, true, false, List, [], ◌∷◌, length, Option, Some, None, is_some, option_map, refl, sym, subst, ◌∙◌, arith}
 use Rattle.std.specs.Prelude.{ℤ, IfSome, fold, min, if◌then◌else◌}
 use Rattle.std.specs.List.{AllByRecursion, slice_get}
@@ -71,8 +73,6 @@ made_less i booked.Used (things.Item j) =
     limit_or_zero_within_limit (amount_number booked.Used (things.Item j) == amount_number booked.Made (things.Item i))
 made_less i e t = other_amount_not_moved (amount_number e t) (amount_number booked.Made (things.Item i)) (omega arith)
 
--- `steps` times PRODUCE's bound for the limit `one` is within its bound for the limit `all`, if `steps * one` is at
--- most `all`
 steps_within_produce : (steps one all : ℕ) → steps * one ≤ all → (e : BooksEntry) (t : Thing)
     → steps * produce_moves one e t ≤ produce_moves all e t
 steps_within_produce steps one all few booked.Made (things.Item i) = few
@@ -107,7 +107,6 @@ only_room e t z room = subst (λ b. HasRoom (if b then holding_limit else 0) z) 
 
 -- ---- one step
 
--- the number and the item that `numbered_item` finds are the number that the order names, and the world's item under it
 of_numbered : (w : WorldValue) (asked : Option ℕ) (f : ℕ × Item) → numbered_item w asked ≡ Some f
     → (asked ≡ Some f.0) × (slice_get w.items f.0 ≡ Some f.1)
 of_numbered w None f is = none_some f is
@@ -207,7 +206,8 @@ module _ (asked : FinMap nat_cmp ℕ) (w : WorldValue) (c : CampaignValue) (e : 
             well_within (both_move one two) (produce_moves holding_limit) w c (with_made d e.0 i e.1) (both_less r i)
             (both_leave_well one two w c d (with_made d e.0 i e.1) (used_well w c e.0 r (e.1 * x.raw_count) (can_use r is)) (made_well w d e.0 i e.1 (can_after r is)))
 
-  -- production that can be done (`CanProduce`) keeps the campaign steady and its books balanced (`LeavesWell`)
+  -- production that can be done (`CanProduce`) keeps the campaign steady, and books at most 999,999,999 of each item as
+  -- made and as used (`LeavesWell`)
   pub produced_well : CanProduce asked w c e
       → LeavesWell IsSteady (produce_moves holding_limit) w c (after_production asked w c e)
   unfolding after_production

@@ -1,6 +1,8 @@
--- Laws of RECRUIT: it keeps a campaign early and its books balanced, and units without an order are no worse off; all
--- shares can be given. `n` is the number of unit `u`, `q` its region, `recruits` how many peasants join the unit, and
--- `cost` the money that it pays for them. `os` are the orders of the phase.
+-- Laws of RECRUIT: all shares can be given, if the books have room, and leave an early campaign early, with the same
+-- month, reports and factions, and balanced books balanced (`LeavesWell`). Units without an order of their own faction
+-- are no worse off: they have the same faction, region, structure, name and guard flag, and no less men, money, items
+-- or days. `n` is the number of unit `u`, `q` its region, `recruits` how many peasants join the unit, and `cost` the
+-- money that it pays for them. `os` are the orders of the phase.
 use Rattle.std.proofs.Common.{◌≡◌, ◌≢◌, ℕ, ◌+◌, ◌-◌, ◌*◌, ◌/◌, ◌≤◌, Some, List, [], ◌∷◌, length, refl, sym, ap, subst, ◌∙◌, arith}
 use Rattle.std.specs.Prelude.{fold, pos, neg_ℤ, min}
 use Rattle.std.specs.Option.{option_map_or}
@@ -129,7 +131,7 @@ module _ (w : WorldValue) (c : CampaignValue) (e : ℕ × ℕ) where
       → after_recruiting w c e ≡ with_recruits_booked c e.0 can.at.unit can.at.region e.1 price
   made_is can = recruited_is can.at.unit can.at.region can.at.there can.at.around
 
-  -- recruits that can join (`CanRecruit`) keep the campaign early, within the bound of one unit (`LeavesWell`)
+  -- recruits that can join (`CanRecruit`) keep the campaign early, and book at most 999,999,999 money (`LeavesWell`)
   pub recruited_well : CanRecruit w c e → LeavesWell IsEarly (recruit_moves holding_limit) w c (after_recruiting w c e)
   recruited_well can =
       subst (λ d. LeavesWell IsEarly (recruit_moves holding_limit) w c d) (sym (made_is can))
@@ -198,7 +200,7 @@ module _ (w : WorldValue) (c : CampaignValue) where
             (later_room step_moves w d joined e es well room),
       )
 
-  -- `os` are the orders; the books have room for all that the phase may book (`room`)
+  -- `os` are the orders; `c` is early, and the books have room for all that the phase may book (`room`)
   module _ (early : IsEarly w c) (os : List Task) (room : HaveRoom (recruit_moves most_moved) c) where
     abbrev shares : List (ℕ × ℕ)
     shares = entries (given_by recruit_pots w c os)

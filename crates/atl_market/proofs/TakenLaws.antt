@@ -38,7 +38,6 @@ use Rattle.atl_market.proofs.WorkOrderLaws.{all_are, have_same_key, month_long_k
 
 -- ---- BUILD
 
--- the phase passes over no order of BUILD
 build_takes : TakesThose build_step is_building all_orders
 build_takes w a t of_phase fit = by_verb t.order_value.verb t.order_value.operands of_phase fit.shape fit.operands
   where

@@ -1,6 +1,7 @@
--- Laws of TAX: it keeps a campaign early, its books balanced and all units no worse off; all shares can be paid in
--- turn. `n` is the number of unit `u`, `q` its region, and `share` how much of the region's money the unit takes. `os`
--- are the orders of the phase.
+-- Laws of TAX: all shares can be paid in turn, and leave an early campaign early, with the same month, reports and
+-- factions, and balanced books balanced (`LeavesWell`). No unit is worse off: each has the same faction, region,
+-- structure, name and guard flag, and no less men, money, items or days. `n` is the number of unit `u`, `q` its region,
+-- and `share` how much of the region's money the unit takes. `os` are the orders of the phase.
 use Rattle.std.proofs.Common.{◌≡◌, ◌≢◌, ℕ, ◌+◌, ◌-◌, ◌≤◌, Some, List, [], ◌∷◌, length, refl, sym, ap, subst, ◌∙◌, arith}
 use Rattle.std.proofs.Math.Nat.{sub-add_cancel}
 use Rattle.std.specs.Prelude.{fold, pos, min}

@@ -1,6 +1,8 @@
--- Laws of SELL and BUY: the campaign's rules and the balance of its books are kept, and all shares can be traded in
--- turn. `trade` is SELL or BUY, `n` the number of unit `u`, `q` its region, `i` the number of an item, and `m` a
--- market. `share` is how many pieces the unit trades, and `stock` what the market has in stock before that. `os` are
+-- Laws of SELL and BUY: all shares can be traded in turn, if the books have room, and leave an early campaign early,
+-- with the same month, reports and factions, and balanced books balanced (`LeavesWell`). Units without an order of
+-- their own faction are no worse off: they have the same faction, region, structure, name and guard flag, and no less
+-- men, money, items or days. `trade` is SELL or BUY, `n` the number of unit `u`, `q` its region, `i` the number of an
+-- item, and `m` a market. `share` is how many pieces the unit trades, `stock` the market's stock before that, and `os`
 -- the orders of the phase.
 use Rattle.std.proofs.Common.{◌≡◌, ◌≢◌, ◌==◌, ◌&&◌, ℕ, ◌+◌, ◌-◌, ◌*◌, ◌/◌, ◌≤◌, ◌<◌, Bool, true, false, cond, Option, Some, None, List, [], ◌∷◌, length, refl, sym, ap, subst, ◌∙◌, arith}
 use Rattle.std.specs.Prelude.{IsSome, fold, pos, ◌+ℤ◌, min, option_and_then, unwrap_or}
@@ -145,7 +147,7 @@ module _ (w : WorldValue) (c : CampaignValue) (n : ℕ) (u : Unit) (q : Region) 
             ∙ ap (λ k. cond (eq_by_cmp nat_cmp j i) d.amount (amount_of u.holding.items j) + k) (amount_after_setting q.stocks i d.stock j)
             ∙ by_test j (eq_by_cmp nat_cmp j i) refl
 
-    -- a trade whose result is within all limits keeps the campaign early, and books only money (`LeavesWell`)
+    -- a trade within all limits keeps the campaign early, and books money alone, at most 999,999,999 (`LeavesWell`)
     pub deal_well : LeavesWell IsEarly (moves_only holding_limit entry Money) w c after
     deal_well =
         exchange_well w c n u q (λ r. restocked r i d.stock) more entry d.booked is around holding_limit may (λ g. g)
@@ -320,7 +322,7 @@ module _ (trade : Trade) (items : FinMap nat_cmp ℕ) (w : WorldValue) (c : Camp
             ∙ add-zero (market_pot trade (limit_of w k.1 k.0) (amount_of (with_amount_of can.at.region.stocks m.item deal.stock) k.1))
             ∙ ap (market_pot trade (limit_of w k.1 k.0)) (amount_after_setting can.at.region.stocks m.item deal.stock k.1 ∙ ap (λ b. cond b deal.stock (amount_of can.at.region.stocks k.1)) is)
 
-  -- a trade that can be made (`CanTrade`) keeps a campaign early, within the bound of one trade (`LeavesWell`)
+  -- a trade that can be made (`CanTrade`) keeps a campaign early, and books at most 999,999,999 money (`LeavesWell`)
   pub traded_well : CanTrade trade items w c e
       → LeavesWell IsEarly (trade_moves trade holding_limit) w c (after_trade trade items w c e)
   traded_well can = by_market (market_for w can.at.unit (get items e.0)) refl

@@ -48,8 +48,8 @@ later_room book_bound w c d x xs well room =
 -- `step` makes the step of an element in a campaign in which it can be made (`can`). Each step keeps the rules `leaves`
 -- and the balance of the books, and books at most `book_bound` (`each`).
 module _ {A : Type 0} {leaves : Condition} (book_bound : BookBound) (w : WorldValue) (can : CampaignValue → A → Type 0) (step : CampaignValue → A → CampaignValue) (each : (c : CampaignValue) (x : A) → can c x → LeavesWell leaves book_bound w c (step c x)) where
-  -- steps that can be taken in turn (`CanInTurn`) keep a campaign's rules and its books balanced, within the sum of
-  -- their bounds (`LeavesWell`), if each step does
+  -- steps that can be taken in turn (`CanInTurn`) keep a campaign's rules, month and balance of the books, within the
+  -- sum of their bounds (`LeavesWell`), if each step does
   pub turns_leave_well : (c : CampaignValue) (xs : List A) → leaves w c → CanInTurn can step c xs
       → LeavesWell leaves (moved_times (length xs) book_bound) w c (fold step c xs)
   turns_leave_well c [] h turns = well_unchanged (moved_times 0 book_bound) w c h

@@ -1,7 +1,8 @@
 -- Laws that BUILD and PRODUCE leave units of a faction without a mailing their items, and their men less the starved.
--- They suppose that the phase keeps what its specification says: no unit without an order of its own faction is worse
--- off. Then such a unit is there, with its faction and name, no less of any item, and its men less those whom the
--- phase's Starved events report. These phases report none. In any case they keep the mailings (`LeavesUnmailed`).
+-- They suppose that the phase keeps what its specification says: a unit without an order of its own faction is there,
+-- with the same faction, region, structure, name and guard flag, and no less men, money, items or days. Then each unit
+-- of a faction without a mailing is there, with its faction and name, no less of any item, and its men less those whom
+-- the phase's Starved events report. These phases report none. In any case they keep the mailings (`LeavesUnmailed`).
 use Rattle.std.proofs.Common.{◌+◌, ◌-◌, ◌*◌, ℕ, Option, Some, None, refl}
 use Rattle.std.specs.Prelude.{IfSome, neg_ℤ, option_and_then, option_map, pos}
 use Rattle.std.specs.List.{slice_get}

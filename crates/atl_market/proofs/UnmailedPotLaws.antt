@@ -1,8 +1,10 @@
 -- Laws that TAX, RECRUIT, WORK, SELL and BUY leave units of a faction without a mailing their items, and their men less
 -- the starved. They suppose that the phase keeps what its specification says: no unit is worse off (TAX, WORK), or none
--- without an order of its own faction. Then such a unit is there, with its faction and name, no less of any item, and
--- its men less those whom the phase's Starved events report. These phases report none. In any case they keep the
--- mailings (`LeavesUnmailed`). `p` is the phase, `m` the month as it gets it, `c` and `d` the campaigns around it.
+-- without an order of its own faction. A unit is no worse off with the same faction, region, structure, name and guard
+-- flag, and no less men, money, items or days. Then each unit of a faction without a mailing is there, with its faction
+-- and name, no less of any item, and its men less those whom the phase's Starved events report. These phases report
+-- none. In any case they keep the mailings (`LeavesUnmailed`). `p` is the phase, `m` the month as it gets it, `c` and
+-- `d` the campaigns around it.
 use Rattle.std.proofs.Common.{◌≡◌, ◌≢◌, ◌==◌, ◌&&◌, ◌||◌, ◌+◌, ◌-◌, ℕ, Bool, true, false, List, [], ◌∷◌, ◌++◌, map, None, refl, ap, ◌∙◌}
 use Rattle.std.specs.Prelude.{if◌then◌else◌, pos}
 use Rattle.std.specs.List.{AllByRecursion, list_any}

@@ -1,5 +1,6 @@
--- Laws that in a phase with pots a unit for which its own faction wrote no order gets nothing, and stays as it is. `p`
--- is the phase, which begins in campaign `c` with the orders `os`, and `n` is the number of unit `u`.
+-- Laws that in a phase with pots a unit for which its own faction wrote no order gets nothing, and stays as it is. So
+-- it is no worse off: it has the same faction, region, structure, name and guard flag, and no less men, money, items or
+-- days. `p` is the phase, which begins in campaign `c` with the orders `os`, and `n` is the number of unit `u`.
 use Rattle.std.proofs.Common.{◌≡◌, ◌≢◌, ◌==◌, ◌&&◌, ℕ, Bool, true, false, List, [], ◌∷◌, Some, refl, sym, ap, subst, ◌∙◌, arith}
 use Rattle.std.specs.Prelude.{Result, Ok, Err, fold, option_map}
 use Rattle.std.specs.List.{AllByRecursion, filter_map}

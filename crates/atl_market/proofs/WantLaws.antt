@@ -1,6 +1,6 @@
 -- Laws that each unit which gets something of a pot has an order without a fault, and gets at most what it wants by the
 -- order. `n` is the number of a unit, `want` how much it wants, `share` how much it gets, and `items` has by unit the
--- item that its order names. `m` is a map, and `es` are entries that are put into it.
+-- item that its order names. `m` is a map, and `es` are entries, pairs (number, value), that are put into it.
 use Rattle.std.proofs.Common.{◌≡◌, ◌≢◌, ℕ, ◌==◌, ◌<◌, ◌≤◌, Bool, true, false, cond, List, [], ◌∷◌, ◌++◌, length, Option, Some, None, is_some, refl, sym, ap, subst, ◌∙◌, inl, inr, arith}
 use Rattle.std.specs.Prelude.{Result, Ok, Err, is_ok, option_map}
 use Rattle.std.specs.List.{AllByRecursion, IsDistinct, cons_option, filter_map}

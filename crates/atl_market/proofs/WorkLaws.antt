@@ -1,6 +1,8 @@
--- Laws of WORK: it keeps a campaign steady, its books balanced and all units no worse off; all wages can be paid in
--- turn. `n` is the number of unit `u`, and `money` its wages. Shares (`es`) are pairs of a unit's number and how many
--- work places it gets. `os` are the orders of the phase.
+-- Laws of WORK: all wages can be paid in turn, if the books have room, and leave a steady campaign steady, with the
+-- same month, reports and factions, and balanced books balanced (`LeavesWell`). No unit is worse off: each has the same
+-- faction, region, structure, name and guard flag, and no less men, money, items or days. `n` is the number of unit
+-- `u`, and `money` its wages. Shares (`es`) are pairs of a unit's number and its number of work places. `os` are the
+-- orders of the phase.
 use Rattle.std.proofs.Common.{◌≡◌, ◌≢◌, ◌==◌, ℕ, ◌+◌, ◌-◌, ◌*◌, ◌/◌, ◌%◌, ◌≤◌, ◌<◌, false, cond, Option, Some, None, List, [], ◌∷◌, length, refl, sym, ap, subst, ◌∙◌, arith}
 use Rattle.std.specs.Prelude.{pos, ◌+ℤ◌, fold}
 use Rattle.std.specs.List.{AllByRecursion}
@@ -84,7 +86,7 @@ module _ (w : WorldValue) (c : CampaignValue) (n : ℕ) (u : Unit) (money : ℕ)
           zero_more : (x : ℕ) → pos x +ℤ pos 0 ≡ pos x
           zero_more x = omega (arith, ints)
 
-  -- wages that the unit has room for keep a steady campaign steady, and book only wages (`LeavesWell`)
+  -- wages that the unit has room for keep a steady campaign steady, and book at most 999,999,999 wages (`LeavesWell`)
   pub wages_leave_well : u.holding.money + money ≤ holding_limit → IsSteady w c
       → LeavesWell IsSteady (work_moves holding_limit) w c wages_paid
   wages_leave_well fits steady = record {
@@ -113,7 +115,7 @@ module _ (w : WorldValue) (c : CampaignValue) (e : ℕ × ℕ) where
   unfolding after_work
   worked_is u is = unit_there c e.0 _ u is ∙ wages_are w c e.0 u (wages_for w u.region e.1) is
 
-  -- wages that can be paid (`CanWork`) keep the campaign steady, within the bound of one unit (`LeavesWell`)
+  -- wages that can be paid (`CanWork`) keep the campaign steady, and book at most 999,999,999 wages (`LeavesWell`)
   pub worked_well : CanWork w c e → LeavesWell IsSteady (work_moves holding_limit) w c (after_work w c e)
   worked_well can =
       subst (λ d. LeavesWell IsSteady (work_moves holding_limit) w c d) (sym (worked_is can.unit can.there))

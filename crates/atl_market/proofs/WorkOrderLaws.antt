@@ -99,7 +99,6 @@ module _ {K X : Type 0} (R : K → K → Ordering) (exact : IsAntisymmetric R) (
 
 -- ---- keys that differ
 
--- the key of an order of WORK: unit, line, faction, index in the mailing
 abbrev work_key : Task → List ℕ
 work_key = key_of ByUnit
 
@@ -146,7 +145,7 @@ module _ (c : CampaignValue) where
     abbrev writers : FinMap nat_cmp ℕ
     writers = own_writers c os
 
-    -- an order is the work of a unit that is there and isn't in the map of writers, and is from the unit's own faction
+    -- the unit of an order is there, isn't in the map of writers, and is of the faction that the order is from
     pub record IsIdle (o : Task) : Type 0 where
       pub unit : Unit
       pub there : get c.units o.unit ≡ Some unit
@@ -198,7 +197,7 @@ module _ (c : CampaignValue) where
         let own : is_of_faction o.faction (get c.units o.unit) ≡ true = ap (is_of_faction o.faction) there ∙ eq-eqb idle.unit.faction o.faction (sym idle.own ∙ sym faction) in
         false≢true (sym (ap (λ n. is_some (get writers n)) unit ∙ idle.unordered) ∙ listed own))
 
-    -- if no two of the orders `os` have the same key, no two orders of WORK that come of them (`all_work`) have
+    -- if no two of the orders `os` have the same key, no two of the orders of WORK made of them (`all_work`) do
     pub work_apart : IsDistinct have_same_key os → IsDistinct have_same_key (all_work c os)
     work_apart apart =
         let chosen = filter (λ (o : Task). is_work o.order_value.verb) os in

@@ -129,7 +129,8 @@ go_on_at c n u (Some (s, k)) =
     let size = size_added k u.holding s.done in
     fault_or c (inside_fault u s k) (after_building_on c n k.material size u.structure (s.done + size), Done size)
 
--- the effect of `BUILD` by unit `n`: it continues the structure that it is inside; with a fault nothing changes
+-- The effect of `BUILD` by unit `n`: it continues the structure that it is inside. With a fault nothing changes, and
+-- the outcome is the fault.
 unfoldable pub go_on : WorldValue → (n : ℕ) → OrderEffect
 go_on w n c u = go_on_at c n u (structure_and_kind_at w c u.structure)
 
@@ -142,7 +143,7 @@ build_effect w n (operands.Kind (Some kind)) = option_map (begin w n kind) (slic
 build_effect w n (operands.Kind None) = Some (go_on w n)
 build_effect w n other = None
 
--- the effect of each order of BUILD, by its unit and operands alone; `aliases`, the numbers of new units, don't count
+-- the effect of an order of BUILD, by its unit and operands alone (`build_effect`); `aliases`, new units, don't count
 abbrev pub build_step : OrderMeaning
 build_step w aliases t = build_effect w t.unit t.order_value.operands
 
@@ -155,8 +156,8 @@ build_moves e t = 0
 
 -- ---- the phase
 
--- The specification of the phase BUILD: it carries out orders one by one, and books Used of items (`moved`). A unit for
--- which its own faction wrote no BUILD that counts is there and no worse off (`IsOwnOrder`, `IsNoWorse`).
+-- The specification of the phase BUILD: it carries out orders one by one, and books only Used of items (`moved`), each
+-- by less than 10^14. A unit for which its own faction wrote no BUILD that counts is there, no worse off (`IsNoWorse`).
 abbrev pub build_spec : PhaseSpec
 build_spec = record (goes_by_orders build_step is_building IsOwnOrder IsNoWorse) {
   book_bound = build_moves;

@@ -6,7 +6,8 @@ use Rattle.atl_records.specs.Holdings.{amount_of}
 use Rattle.atl_campaign.specs.Campaign.{CampaignValue, with_booking, with_item}
 use Rattle.atl_phase.specs.There.{at_unit}
 
--- a campaign after unit `n` used `amount` of item `i`, booked as used; unchanged where the unit isn't there
+-- A campaign after unit `n` used `amount` of item `i`, which is booked as used. None of it is left if the unit held
+-- less. Where the unit isn't there, nothing changes.
 abbrev pub with_used : CampaignValue → ℕ → (item amount : ℕ) → CampaignValue
 with_used c n i amount =
     at_unit c n (λ u.

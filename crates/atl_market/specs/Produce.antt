@@ -46,8 +46,8 @@ numbered_item w asked = option_and_then (λ i. option_map (λ x. (i, x)) (slice_
 abbrev pub up_to_raw : HoldingValue → (count : ℕ) → (raw : Option ℕ) → (most : ℕ) → ℕ
 up_to_raw h count raw most = option_map_or (λ r. min (amount_of h.items r / count) most) raw most
 
--- The most of an item, with the number `item`, that a unit can make. It is the least of its men times their level in
--- the item's skill, its room for the item, and what its raw items allow, if the item takes any.
+-- The most of an item, with the number `item`, that a unit can make: the least of its men times their level in the
+-- item's skill (0 without a skill), its room for the item, and what its raw items allow, if it takes any.
 abbrev pub most_makeable_of : HoldingValue → (item : ℕ) → Item → ℕ
 most_makeable_of h i x =
     up_to_raw h x.raw_count x.raw (min (h.men * level_in_any h x.skill) (holding_limit - amount_of h.items i))
@@ -145,11 +145,12 @@ produce_moves most Made (things.Item i) = most
 produce_moves most Used (things.Item i) = most
 produce_moves most e t = 0
 
--- what PRODUCE leaves alone: units for which their own faction wrote no PRODUCE that counts are there, no worse off
+-- What PRODUCE leaves alone: a unit for which its own faction wrote no PRODUCE that counts is there after it, with the
+-- same faction, region, structure, name and guard flag, and no less men, money, items or days.
 abbrev pub produce_keeps : Frame
 produce_keeps = no_worse_without_order is_produce
 
--- the specification of the phase PRODUCE, which books Made and Used of items
+-- the specification of the phase PRODUCE, which books only Made and Used of items, each by less than 10^14
 abbrev pub produce_spec : PhaseSpec
 produce_spec = record {
   meaning = produce_meaning;

@@ -71,10 +71,11 @@ recruit_meaning = pots_by_orders recruit_pots is_recruit
 abbrev pub recruit_moves : ℕ → BookBound
 recruit_moves most = moves_only most Recruiting Money
 
--- what RECRUIT leaves alone: units for which their own faction wrote no RECRUIT that counts are there, no worse off
+-- What RECRUIT leaves alone: a unit for which its own faction wrote no RECRUIT that counts is there after it, with the
+-- same faction, region, structure, name and guard flag, and no less men, money, items or days.
 abbrev pub recruit_keeps : Frame
 recruit_keeps = no_worse_without_order is_recruit
 
--- the specification of the phase RECRUIT, which books Recruiting of money
+-- the specification of the phase RECRUIT, which books only Recruiting of money, by less than 10^14
 abbrev pub recruit_spec : PhaseSpec
 recruit_spec = books_money Recruiting recruit_meaning recruit_keeps

@@ -56,6 +56,7 @@ tax_pots = record {
 abbrev pub tax_meaning : Meaning
 tax_meaning = pots_by_orders tax_pots is_tax
 
--- the specification of the phase TAX: money only goes from regions to units, so nothing is booked; no unit is worse off
+-- The specification of the phase TAX: money only goes from regions to units, so nothing is booked. Each unit is there
+-- after it, with the same faction, region, structure, name and guard flag, and no less men, money, items or days.
 abbrev pub tax_spec : PhaseSpec
 tax_spec = spec_without_books tax_meaning all_no_worse

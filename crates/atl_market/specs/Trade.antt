@@ -52,7 +52,7 @@ abbrev pub has_too_little : Trade → HoldingValue → Market → Bool
 has_too_little Sell h m = amount_of h.items m.item == 0
 has_too_little Buy h m = nat_lt h.money m.price
 
--- the first fault of SELL or BUY after NotYours, if there is one: NoMarket without a market (None), NotEnough
+-- the first fault of SELL or BUY after NotYours, if any: NoMarket without a market (None), NotEnough (`has_too_little`)
 abbrev pub trade_fault : Trade → HoldingValue → Option Market → Option EventFault
 trade_fault trade h None = Some NoMarket
 trade_fault trade h (Some m) = first_fault ((has_too_little trade h m, NotEnough) ∷ [])
@@ -147,14 +147,15 @@ trade_meaning trade = pots_by_orders (trade_pots trade) (is_trade trade)
 abbrev pub trade_moves : Trade → ℕ → BookBound
 trade_moves trade most = moves_only most (trade_entry trade) Money
 
--- what SELL or BUY leaves alone: units for which their own faction wrote none that counts are there, no worse off
+-- What SELL or BUY leaves alone: a unit for which its own faction wrote no order of the phase that counts is there
+-- after it, with the same faction, region, structure, name and guard flag, and no less men, money, items or days.
 abbrev pub trade_keeps : Trade → Frame
 trade_keeps trade = no_worse_without_order (is_trade trade)
 
--- the specification of the phase SELL, which books Sold of money
+-- the specification of the phase SELL, which books only Sold of money, by less than 10^14
 abbrev pub sell_spec : PhaseSpec
 sell_spec = books_money Sold (trade_meaning Sell) (trade_keeps Sell)
 
--- the specification of the phase BUY, which books Bought of money
+-- the specification of the phase BUY, which books only Bought of money, by less than 10^14
 abbrev pub buy_spec : PhaseSpec
 buy_spec = books_money Bought (trade_meaning Buy) (trade_keeps Buy)

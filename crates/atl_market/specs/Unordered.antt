@@ -1,6 +1,6 @@
 -- What SELL, BUY, RECRUIT and PRODUCE leave alone: units for which their own faction wrote no order of the phase that
--- counts. A unit is no worse off (`IsNoWorse`) with the same faction, place, name and guard flag, and no less men,
--- money, items or days.
+-- counts. A unit is no worse off (`IsNoWorse`) with the same faction, region, structure, name and guard flag, and no
+-- less men, money, items or days.
 use Rattle.std.specs.Prelude.{◌≡◌, ◌==◌, ◌&&◌, ℕ, Bool, false, List, Some}
 use Rattle.std.specs.List.{list_any}
 use Rattle.std.specs.FinMap.{get}

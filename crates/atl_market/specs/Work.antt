@@ -106,6 +106,7 @@ work_meaning = pots_meaning work_pots work_orders
 abbrev pub work_moves : ℕ → BookBound
 work_moves most = moves_only most Wages Money
 
--- the specification of the phase WORK, which books Wages of money; no unit is worse off
+-- The specification of the phase WORK, which books only Wages of money, by less than 10^14. Each unit is there after
+-- it, with the same faction, region, structure, name and guard flag, and no less men, money, items or days.
 abbrev pub work_spec : PhaseSpec
 work_spec = books_money Wages work_meaning all_no_worse

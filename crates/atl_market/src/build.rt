@@ -111,6 +111,8 @@ fn name_of(alloc: Global, kind: &Kind, number: u32) -> Result<Text, AllocError>
     Ok(Text::from_string(letters))
 }
 
+/// Unit `unit` uses `size` of the material of `kind`, which has the number `number`, begins a
+/// structure with it in `region`, and enters it.
 fn start_structure(
     alloc: Global,
     world: &World,

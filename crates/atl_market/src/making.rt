@@ -47,8 +47,8 @@ fn up_to_raw(holding: &Holding, count: u32, raw: Option<u16>, most: u32) -> u32
     }
 }
 
-/// The first fault of PRODUCE, if there is one: NoMen, NoSkill, NoMaterial; without an item of the
-/// world NoMen, else NoSkill.
+/// The first fault of PRODUCE after NotYours, if there is one: NoMen, NoSkill, NoMaterial; without
+/// an item of the world NoMen, else NoSkill.
 pub(crate) fn produce_fault(
     world: &World,
     holding: &Holding,

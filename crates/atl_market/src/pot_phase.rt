@@ -133,7 +133,8 @@ fn unit_for<'c, P: PotPhase>(
     }
 }
 
-/// Puts nothing into the maps where the order has a fault, and no item where it names none.
+/// Puts into the maps, under the order's unit, what it wants and the item that the order names. It
+/// puts in nothing where the order has a fault, and no item where it names none.
 #[tactic(auto, using(crate::proofs::WantLaws::one_want))]
 fn note_order<P: PotPhase>(
     phase: &P,
@@ -163,7 +164,7 @@ fn note_order<P: PotPhase>(
     Ok(())
 }
 
-/// The wants, and then the items that orders name, both by unit, of the orders without a fault.
+/// The wants (at most 999,999,999) and the items that orders name, by unit, of faultless orders.
 #[tactic(auto, using(crate::proofs::WantLaws::optional_entry_first))]
 fn wants_and_items<P: PotPhase>(
     alloc: Global,
@@ -227,7 +228,8 @@ fn events_of<P: PotPhase>(
     Ok(events)
 }
 
-/// Pays the units by rising numbers. AllocError may leave the campaign changed in part.
+/// Pays the units by rising numbers; each can be paid when its turn comes (`can`). AllocError may
+/// leave the campaign changed in part.
 fn pay_all<P: PotPhase>(
     phase: &P,
     world: &World,

@@ -134,6 +134,8 @@ fn trade_result_of(
     }
 }
 
+/// Sets what unit `number` and the stock of its region have after a trade (`deal`), and books the
+/// money. Where `region` isn't the unit's, nothing is promised of the campaign.
 fn book_trade(
     campaign: &mut Campaign,
     number: u32,

@@ -74,7 +74,8 @@ fn written_work<'m>(
     Ok(list)
 }
 
-/// Each appended order refers to the mailing `mailing` and the order `work`.
+/// Appends an order of WORK for each unit with men for which its own faction wrote none of
+/// `orders`. Each of them refers to the mailing `mailing` and the order `work`.
 fn add_idle_orders<'m>(
     alloc: Global,
     campaign: &Campaign,

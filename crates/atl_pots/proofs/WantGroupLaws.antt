@@ -108,7 +108,7 @@ module _ (asked_by : ℕ → Option ℕ) where
         let mine = ap (λ (m : FinMap nat_cmp ℕ). get m n) (sym (group_found pot group is)) ∙ there in
         low n want (asking asked_by wants pot n want mine).1)
 
-    -- what is made of each group and its pot is what is made of the wants for each pot that has a group
+    -- `f`, applied to each pot that has a group, gives the same with the pot's group as with the wants for the pot
     pub from_groups : (f : ℕ → FinMap nat_cmp ℕ → Entries)
         → flat_map (λ g. f g.0 g.1) (entries groups_made)
         ≡ flat_map (λ pot. f pot (wants_for asked_by wants pot)) (keys groups_made)

@@ -1,4 +1,4 @@
--- For proofs alone: a map into which entries are put one after another; of two under one number the later counts.
+-- For proofs alone: a map into which entries (number, value) are put in turn; of two under one number the later counts.
 use Rattle.std.specs.Prelude.{ℕ, List, Option}
 use Rattle.std.specs.List.{fold}
 use Rattle.std.specs.Option.{option_map_or}

@@ -100,7 +100,8 @@ fn amounts_of(alloc: Global, wants: &Numbered<u32>) -> Result<Vec<u64>, AllocErr
     Ok(amounts)
 }
 
-/// Puts the shares into `given`, by unit. They are those of the units in `wants`, in unit order.
+/// Puts the shares, each at most 999,999,999, into `given`, by unit. They are those of the units in
+/// `wants`, in unit order.
 fn put_shares(
     wants: &Numbered<u32>,
     shares: &[u64],

@@ -1,6 +1,6 @@
 -- Laws of the shares of a pot, and of the remainder that the code carries from share to share. No share is above its
--- want, the whole pot is given if the wants exceed it, and each share is within one of its exact part. `total` is the
--- sum of all wants, `before` the sum of the wants before `want`, and i an index of the list of wants.
+-- want. If the wants exceed the pot, all of it is given, and each share is off `pot * want / total` by less than one.
+-- `total` is the sum of all wants, `before` the sum of those before `want`, and i an index of the list of wants.
 use Rattle.std.proofs.Common.{◌≡◌, ℕ, ◌+◌, ◌-◌, ◌*◌, ◌/◌, ◌%◌, ◌<◌, ◌≤◌, List, [], ◌∷◌, ◌++◌, length, get_or, min, inl, inr, zero, suc, sum, refl, ap, sym, ◌∙◌, add-zero, zero-add, arith}
 use Rattle.std.proofs.Math.Nat.{mul-div-le, mul-add, add-mul-div_left, div-add-mod, mod-lt, mul-div_left, mul-zero, zero-div, div-lt_iff_lt-mul, lt-mul-div-succ, mul-le-mul_left, le-div_iff_mul-le, mul_comm}
 use Rattle.std.proofs.lemmas.List.Sums.{sum_by-cons, sum_by-append}
@@ -8,8 +8,6 @@ use Rattle.std.proofs.lemmas.Bool.Decides.{nat_tests}
 use Rattle.std.proofs.lemmas.Bool.{cases_lt}
 use Rattle.atl_shares.specs.Share.{IsNearPart, SplittingKeepsOthers, share_upto, shares, shares_after}
 
--- What the first wants get together (`share_upto`), times `total`, is at most `pot * x`, and above `pot * x` less
--- `total`. The first wants add up to `x`, and all wants to `total`, which isn't 0.
 upto_is_rounded_quotient : (pot total x : ℕ) → 0 < total
     → (total * share_upto pot total x ≤ pot * x) × (pot * x < total * share_upto pot total x + total)
 upto_is_rounded_quotient pot total x p = (mul-div-le (pot * x) total, omega (arith, lt-mul-div-succ (pot * x) p))
@@ -48,7 +46,7 @@ sum-shares_after pot total before p (w ∷ ws) =
     let same : share_upto pot total ((before + w) + sum ws) ≡ share_upto pot total (before + sum (w ∷ ws)) = ap (share_upto pot total) (omega arith) in
     omega arith
 
--- the shares of one list of wants after another are those of the first and then those of the second
+-- shares of `xs ++ ys` are those of `xs`, and then those of `ys`, which comes after `before` and all wants of `xs`
 pub shares_after-append : (pot total before : ℕ) (xs ys : List ℕ)
     → shares_after pot total before (xs ++ ys)
     ≡ shares_after pot total before xs ++ shares_after pot total (before + sum xs) ys
@@ -132,7 +130,6 @@ length-shares pot wants = elim (cases_lt pot (sum wants)) [
   | inr h ↦ ap length (shares-enough pot wants h)
 ]
 
--- the sum of all wants stays the same if several wants in a row (`parts`) take the place of one that is their sum
 sum-split : (ahead parts after : List ℕ) → sum (ahead ++ parts ++ after) ≡ sum (ahead ++ sum parts ∷ after)
 sum-split ahead parts after =
     let one : sum (ahead ++ parts ++ after) ≡ sum (ahead ++ parts) + sum after = sum_by-append (λ x. x) (ahead ++ parts) after in

@@ -132,8 +132,8 @@ no_accounts m s g = rw (get-empty nat_cmp s, get-empty nat_cmp g) refl
 pub none_short : (m s g : ℕ) → (account_at empty s g).short ≤ most_per_head * men_limit * 0
 none_short m s g = rw (no_accounts m s g) (omega arith)
 
--- `m` is the maintenance of each man. The units `before` are counted in `accounts`, and unit `p` is the next one.
--- Account `a` is that of the faction of `p` in the region of `p`, with `p` counted.
+-- `m` is the maintenance of each man. The units `before` are counted in `accounts`, and unit `p` is the next one. `a`
+-- is the account of the faction of `p` in the region of `p`, with `p` counted; it is set in the map if it is short.
 module _ (m : ℕ) (before : List UpkeepInput) (p : UpkeepInput) (accounts : FactionAccounts) (a : Account) where
   -- if each account has what the units `before` are short of, then with unit `p` counted each has what they and `p` are
   -- short of
@@ -185,8 +185,8 @@ module _ (m : ℕ) (before : List UpkeepInput) (p : UpkeepInput) (accounts : Fac
           ap (λ n. n + left_of m p) (counted (all_short all) _ false some) ∙ sym (more_own (left_of m) before p)
           ∙ sym (counted (all_short all) _ false some)
 
--- Let each account be short of at most what `n` units can be short of, and unit p of at most what one can be. Once p is
--- counted, and its account becomes `a`, each is short of at most what `n + 1` units can be.
+-- Let each account be short of at most what `n` units can be short of, and unit p of at most what one can be. With p
+-- counted, its account is `a`, which is set if it is short. Then each is short of at most what `n + 1` units can be.
 pub few_short : (m n : ℕ) (accounts : FactionAccounts) (p : UpkeepInput) (a : Account)
     → short_of m p ≤ most_per_head * men_limit
     → ((s g : ℕ) → (account_at accounts s g).short ≤ most_per_head * men_limit * n)
@@ -199,7 +199,7 @@ few_short m n accounts p a short each is =
     (λ none. omega (arith, old)) (λ some. rw is (omega (arith, old, short))) (λ s g apart. omega (arith, each s g))
 
 -- Let each account have at most as much money left as `n` units can have, and unit p at most as much as one can have.
--- Once p is counted, and its account becomes `a`, each has at most as much left as `n + 1` units can have.
+-- With p counted, its account is `a`, which is set if it is short. Then each has at most what `n + 1` units can have.
 pub few_left : (m n : ℕ) (accounts : FactionAccounts) (p : UpkeepInput) (a : Account) → left_of m p ≤ holding_limit
     → ((s g : ℕ) → (account_at accounts s g).left ≤ holding_limit * n)
     → a ≡ record (account_at accounts p.region p.faction) { left = (account_at accounts p.region p.faction).left + left_of m p }
@@ -231,7 +231,8 @@ is_lower n p = nat_lt p.unit n
 no_lower : (a b : ℕ) → b < a + 1 → nat_lt a b ≡ false
 no_lower a b l = grind (arith, nat_tests, l)
 
--- in a list sorted by their numbers, the units below the one at index `i` are the first `i`; d is any unit
+-- In a list of units with rising numbers, those with lower numbers than the unit at index `i` of the list are the first
+-- `i`. `d` is what a look-up past the end of the list would give.
 pub lower_first : (all : List UpkeepInput) (i : ℕ) (d : UpkeepInput) → AreInOrder all → i < length all
     → filter (is_lower (get_or all i d).unit) all ≡ take i all
 lower_first [] i d order l = absurd (omega (arith, l))
@@ -244,14 +245,12 @@ lower_first (p ∷ ps) (suc i) d order l =
 
 -- ---- the upkeep of all units
 
--- for `upkeep_result_more`: what the units before gave in turn, with what the next one gives, is the lesser of what all
--- these want to give (`before + want`) and the amount to give
+-- what units gave so far with what the next one gives: what all these want to give, at most the amount to give
 next_dealt : (before want amount give : ℕ) → give ≡ amount
     → min before amount + min (give - min before amount) want ≡ min (before + want) amount
 next_dealt before want amount give is = omega (arith, is)
 
--- For `upkeep_result_is`: what a unit gives or gets in turn is what all units up to and with this one give or get
--- together, less what the units before it do.
+-- what a unit gives or gets in turn: what all units up to and with it do together, less what those before it do
 is_dealt : (before want amount give : ℕ) → give ≡ amount
     → min (give - min before amount) want ≡ min (before + want) amount - min before amount
 is_dealt before want amount give is = omega (arith, is)
@@ -274,8 +273,8 @@ module _ (m : ℕ) (all before : List UpkeepInput) (p : UpkeepInput) (accounts :
   to_give_is : to_give now ≡ amount
   to_give_is = gives_all (short_among m p.region p.faction all) (left_among m p.region p.faction all)
 
-  -- after a unit had its turn, each account is that of all units, of which those before it and it had their turn
-  -- (`account_of`)
+  -- Let `a` be the account of the unit's faction in its region after its turn; it is set if it is short. Then each
+  -- account is that of all units (`account_of`), of which `before` and then `p` had their turn.
   pub upkeep_result_more : (a : Account) → a ≡ account_after m (account_at accounts p.region p.faction) p
       → (s g : ℕ)
       → account_at (with_if_short accounts p.region p.faction a) s g ≡ account_of m all (before ++ p ∷ []) s g

@@ -27,7 +27,7 @@ account_at m region faction = unwrap_or (get (group_of m region) faction) no_acc
 abbrev pub with_account : FactionAccounts → (region faction : ℕ) → Account → FactionAccounts
 with_account m region faction a = insert m region (insert (group_of m region) faction a)
 
--- a map of accounts in which that of a faction in a region is `a`, if its units are short; else the map as it was
+-- a map of accounts in which that of a faction in a region is `a`, if by `a` its units are short; else as it was
 abbrev pub with_if_short : FactionAccounts → (region faction : ℕ) → Account → FactionAccounts
 with_if_short m region faction a = if a.short == 0 then m else with_account m region faction a
 
@@ -45,9 +45,9 @@ short_among maintenance region faction inputs = sum_by (short_of maintenance) (p
 abbrev pub to_give : Account → ℕ
 to_give a = min a.left a.short
 
--- What upkeep takes from a unit, at this maintenance for each man, by the account of its faction in its region as it is
--- when the unit's turn comes. It gives what it has left, and gets what it is short of, each until the amount to give
--- (`to_give`) is used up. The men starve for whom money is missing still.
+-- What upkeep takes from a unit in its turn, at this maintenance for each man, by the account of its faction in its
+-- region. It pays for its own men, gives what it has left, and gets what it is short of, the last two until the amount
+-- to give (`to_give`) is used up. The men starve for whom money is missing still.
 abbrev pub upkeep_result_by : ℕ → Account → UpkeepInput → UpkeepResult
 upkeep_result_by maintenance a input = record {
   unit = input.unit;
@@ -56,8 +56,8 @@ upkeep_result_by maintenance a input = record {
   starved = starved_of maintenance (short_of maintenance input - min (to_give a - a.covered) (short_of maintenance input));
 }
 
--- an account to which is added what one more unit gave to others in its turn, and what it got from others, at this
--- maintenance for each man
+-- An account after the turn of one more unit, at this maintenance for each man. Added is what the unit gave to others,
+-- and what it got from them, each until the amount to give (`to_give`) is used up.
 abbrev pub account_after : ℕ → Account → UpkeepInput → Account
 account_after maintenance a input = record a {
   given = a.given + min (to_give a - a.given) (left_of maintenance input);
@@ -70,7 +70,7 @@ pub record IsOpen (a : Account) : Type 0 where
   pub given : a.given ≤ to_give a
   pub covered : a.covered ≤ to_give a
 
--- the money left that an account counts, where its units are short of `short` together: none if they aren't short
+-- the money left that an account counts: `left`, what its units have left, or 0 if none of them is short (`short` is 0)
 abbrev pub counted_left : (short left : ℕ) → ℕ
 counted_left short left = if short == 0 then 0 else left
 
@@ -82,9 +82,9 @@ opened maintenance all counted region faction =
     let short = short_among maintenance region faction all in
     record { left = counted_left short (left_among maintenance region faction counted); short = short; given = 0; covered = 0 }
 
--- The account of a faction in a region at this maintenance for each man, where `all` are the units of upkeep. `left`
--- and `short` are what the faction's units there have left and are short of; `left` is 0 where they aren't short. The
--- units `before` had their turn, and `given` and `covered` are what they gave and got.
+-- The account of a faction in a region, at this maintenance for each man; `all` are the units of upkeep. `left` and
+-- `short` are what the faction's units there have left (0 if none is short) and are short of. The units `before` had
+-- their turn: what these had left was given, and what they were short of was covered, up to `given_among`.
 abbrev pub account_of : ℕ → (all before : List UpkeepInput) → (region faction : ℕ) → Account
 account_of maintenance all before region faction =
     let given = given_among maintenance (peers_of region faction all) in

@@ -7,7 +7,7 @@ use Rattle.atl_shares.specs.declared.upkeep_sharing.UpkeepInput.{UpkeepInput}
 use Rattle.atl_shares.specs.declared.upkeep_sharing.UpkeepResult.{UpkeepResult}
 use Rattle.atl_shares.specs.InTurn.{amount_in_turn}
 
--- the men and the money of a unit are within the limits of a holding
+-- a unit has at most 999,999 men (`men_limit`) and at most 999,999,999 money (`holding_limit`)
 pub record IsUpkeepInput (input : UpkeepInput) : Type 0 where
   pub men : input.men ≤ men_limit
   pub money : input.money ≤ holding_limit

@@ -48,8 +48,9 @@ fn put_account(
     accounts.insert_under(alloc, input.region, input.faction, account)
 }
 
-/// Sets the account of the faction of a unit (`input`) in the unit's region, if its units are
-/// short of money, and else nothing. After an AllocError the accounts are no longer valid.
+/// Sets the account of the faction of a unit (`input`) in the unit's region to `account`, if by
+/// this its units are short of money, and else nothing. After an AllocError the accounts are no
+/// longer valid.
 pub(crate) fn put_if_short(
     alloc: Global,
     accounts: &mut Accounts,

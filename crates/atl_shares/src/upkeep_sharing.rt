@@ -128,9 +128,9 @@ fn payment_of(maintenance: u32, account: &mut Account, input: &UpkeepInput) -> U
 }
 
 /// What upkeep takes from each unit of `inputs`. They are in the order of their numbers, each once,
-/// with men and money within the limits of a holding. The units of one faction in one region pay
-/// for each other. The maintenance is what one man costs in a month, from 1 to `MOST_PER_HEAD`.
-/// AllocError without memory. See docs/RULES.md, "Upkeep".
+/// with at most 999,999 men and 999,999,999 money. The units of one faction in one region pay for
+/// each other. The maintenance is what one man costs in a month, from 1 to 1,000. AllocError
+/// without memory. See docs/RULES.md, "Upkeep".
 pub fn upkeep_payments(
     alloc: Global,
     maintenance: u32,

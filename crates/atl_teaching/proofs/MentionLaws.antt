@@ -13,7 +13,6 @@ use Rattle.atl_teaching.specs.Teach.{first_mentions}
 abbrev pub is_new : FinMap nat_cmp ℕ → ℕ → Bool
 is_new seen k = not (is_some (get seen k))
 
--- two filters in turn are one filter, if its test is true exactly where both of their tests are
 both_filters : (p q r : ℕ → Bool) → ((k : ℕ) → (q k && p k) ≡ r k) → (ns : List ℕ)
     → filter p (filter q ns) ≡ filter r ns
 both_filters p q r same [] = refl
@@ -34,7 +33,7 @@ first_mention_is_kept seen n ns new =
     grind
     (rules, new, both_filters (is_new seen) (λ k. not (k == n)) (is_new (insert seen n n)) (new_after_insert seen n) (first_mentions ns))
 
--- a number that was seen makes no difference at the head of a list: the new numbers are those of the rest of the list
+-- a number that was seen makes no difference in front of a list: without repetitions, the list has the same new numbers
 pub later_mention_is_dropped : (seen : FinMap nat_cmp ℕ) (n : ℕ) (ns : List ℕ) → is_some (get seen n) ≡ true
     → filter (is_new seen) (first_mentions (n ∷ ns)) ≡ filter (is_new seen) (first_mentions ns)
 later_mention_is_dropped seen n ns there =

@@ -18,7 +18,6 @@ use Rattle.atl_teaching.specs.Teach.{AreTaughtOnce, NobodyIsTaughtTwice, TaughtM
 -- Below, `taught` has by unit how many of its men were taught so far, and `places` is how many more men a teacher can
 -- teach. `ns` are the numbers of the pupils, in the order in which they are taught.
 module _ (c : CampaignValue) where
-  -- a lesson teaches at most those men of a unit who weren't taught yet
   few_in_lesson : (taught : TaughtMen) (places : ℕ) (ns : List ℕ) (n : ℕ)
       → taught_in_lesson c taught places ns n ≤ untaught_men c taught n
   few_in_lesson taught places [] n = omega arith

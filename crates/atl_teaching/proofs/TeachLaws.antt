@@ -1,4 +1,4 @@
--- Laws of a lesson of TEACH: a lesson to a list of units is the first unit's part, and then a lesson to the others.
+-- Laws of a lesson of TEACH: a lesson to a list of units is one to the first unit, and then one to the others.
 use Rattle.std.proofs.Common.{◌≡◌, ◌≢◌, ◌==◌, ◌≤◌, ℕ, ◌+◌, ◌-◌, min, not, Bool, false, List, [], ◌∷◌, filter, sum_by, refl, sym, ap, ◌∙◌, inl, inr, arith}
 use Rattle.std.specs.Prelude.{nat_eq, if◌then◌else◌}
 use Rattle.std.specs.List.{AllByRecursion, IsDistinct}
@@ -50,7 +50,6 @@ module _ (c : CampaignValue) (taught after : TaughtMen) (n given : ℕ) (here : 
       let same = away k (λ is. is_unequal n k all.0 (sym is)) in
       grind (arith, sum_by-cons (untaught_men c after) k ns, sum_by-cons (untaught_men c taught) k ns, same, same_sum ns all.1)
 
-  -- a lesson to units other than n teaches as many men as before unit n got its part of the lesson
   same_lesson : (places : ℕ) (ns : List ℕ) (k : ℕ) → AreOthers n ns
       → taught_in_lesson c after places ns k ≡ taught_in_lesson c taught places ns k
   same_lesson places [] k all = refl
@@ -59,7 +58,6 @@ module _ (c : CampaignValue) (taught after : TaughtMen) (n given : ℕ) (here : 
       ap (λ m. if k == j then min places m else taught_in_lesson c after (places - m) ns k) same
       ∙ ap (λ m. if k == j then min places (untaught_men c taught j) else m) (same_lesson (places - untaught_men c taught j) ns k all.1)
 
-  -- a lesson to units other than n teaches none of its men
   not_taught : (places : ℕ) (ns : List ℕ) → AreOthers n ns → taught_in_lesson c after places ns n ≡ 0
   not_taught places [] all = refl
   not_taught places (k ∷ ns) all = rw all.0 (not_taught (places - untaught_men c after k) ns all.1)
@@ -67,8 +65,8 @@ module _ (c : CampaignValue) (taught after : TaughtMen) (n given : ℕ) (here : 
   -- A lesson has places for `places` men. Unit `n` is first in turn and gets `given` of the places; `ns` are the units
   -- after unit `n`.
   module _ (places : ℕ) (ns : List ℕ) (is : given ≡ min places (untaught_men c taught n)) (others : AreOthers n ns) where
-    -- unit n's part and then a lesson to the others, for the places left, leave as many men of each unit taught as the
-    -- whole lesson
+    -- once `given` men of unit n are taught, a lesson to the others, for the places left, leaves as many men of each
+    -- unit taught as one lesson to all
     pub rest_taught : (k : ℕ)
         → after k + taught_in_lesson c after (places - given) ns k
         ≡ taught k + taught_in_lesson c taught places (n ∷ ns) k

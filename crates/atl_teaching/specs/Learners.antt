@@ -39,7 +39,8 @@ learns w s f unit = option_map_or (λ u. u.faction == f && can_learn w s u.holdi
 abbrev pub Learning : Type 0
 Learning = FinMap nat_cmp ℕ
 
--- the map with the unit of an order of STUDY and the skill that it names, if the unit learns by it; else as it was
+-- The map with the skill that an order of STUDY names put under its unit, if the unit is there, is of the order's
+-- faction and can learn the skill (`learns`). If not, or if the order names no skill, it is the map as it was.
 abbrev pub with_learner : WorldValue → CampaignValue → Learning → Task → Learning
 with_learner w c learning t =
     option_map_or

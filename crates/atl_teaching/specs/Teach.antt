@@ -72,9 +72,8 @@ men_at c n = option_map_or (λ u. u.holding.men) (get c.units n) 0
 abbrev pub untaught_men : CampaignValue → TaughtMen → (n : ℕ) → ℕ
 untaught_men c taught n = men_at c n - taught n
 
--- How many men of unit n are taught in a lesson for `places` men.
--- The units, each listed once, take turns: each gets the places that the units before it leave, up to its untaught men.
--- It is 0 where n isn't listed.
+-- How many men of unit n are taught in a lesson for `places` men. The units, each listed once, take turns: each gets
+-- the places that the units before it leave, up to its untaught men. It is 0 where n isn't listed.
 abbrev pub taught_in_lesson : CampaignValue → TaughtMen → (places : ℕ) → List ℕ → (n : ℕ) → ℕ
 taught_in_lesson c taught places [] n = 0
 taught_in_lesson c taught places (k ∷ ns) n =
@@ -100,7 +99,8 @@ teach_fault c t pupils below = first_fault (
     ∷ [])
 
 -- How many men of each unit were taught so far after an order of TEACH, and its outcome. The unit has a lesson with 10
--- places for each of its men, for its pupils of a lower level; with a fault it teaches nobody.
+-- places for each of its men, for its pupils of a lower level, each where it is first listed. With a fault it teaches
+-- nobody, and the outcome is the fault.
 unfoldable pub teach : CampaignValue → Aliases → Learning → TaughtMen → Task → TaughtMen × Outcome
 teach c aliases learning taught t =
     let pupils = pupils_of c aliases learning t in
@@ -115,7 +115,8 @@ abbrev pub teach_order : CampaignValue → Learning → TaughtMen × MonthValue 
 teach_order c learning (taught, m) t =
     let after = teach c m.aliases learning taught t in (after.0, with_event_of m t (Some after.1))
 
--- how many men of each unit were taught by all orders of TEACH together, and the month with their events
+-- How many men of each unit were taught by all orders of TEACH that count, one after the other by unit, line and
+-- faction; and the month with their events. Nobody was taught before.
 unfoldable pub after_lessons : CampaignValue → Learning → MonthValue → TaughtMen × MonthValue
 after_lessons c learning m = fold (teach_order c learning) ((λ n. 0), m) (orders_by_unit is_teaching m)
 

@@ -148,7 +148,7 @@ fn untaught_men(campaign: &Campaign, taught: &Numbered<u32>, unit: u32) -> u32
 }
 
 /// Gives a lesson for `places` men to units that are each listed once, and returns how many men it
-/// taught. Each unit gets the places that those before it leave.
+/// taught. Each unit gets the places that those before it leave, up to its untaught men.
 fn teach_men(
     campaign: &Campaign,
     taught: &mut Numbered<u32>,
@@ -170,7 +170,8 @@ fn teach_men(
     Ok(places - left)
 }
 
-/// Gives a lesson for `places` men to units, however often each is listed.
+/// Gives a lesson for `places` men to units, each only where it is first listed. The outcome is
+/// Done with how many men it taught.
 fn give_lesson(
     alloc: Global,
     campaign: &Campaign,
@@ -233,8 +234,9 @@ fn teach(
 }
 
 /// Carries out all orders of TEACH, which are such as can be read with some world, and adds their
-/// events to the month. `learning` has by unit the skill that it learns. Returns how many men of
-/// each unit were taught. AllocError without memory; the month may then have some of the events.
+/// events to the month, which else stays as it is. `learning` has by unit the skill that it learns.
+/// Returns how many men of each unit were taught. AllocError without memory; the month may then
+/// have some of the events.
 pub fn teach_all(
     alloc: Global,
     campaign: &Campaign,
