@@ -1,5 +1,6 @@
 -- Laws on writes inside a transaction: what one statement, or several steps together, do, and which error they give.
 -- `own` is the set of statements that a write may run; `Does` says what the write does, of the states before and after.
+-- A write (`Writes`) that ends with Ok has done `Does` by statements of `own`; an error is one that a call of it gave.
 -- `a` is the connection before the first step; `b`, `c` and `d` are it after each step. `g` is the kind of store.
 -- `r` is the result of the steps: what the last one returned, or the error of the one that failed.
 use Rattle.std.proofs.Common.{◌≡◌, ℕ, List, false, IsTrue, Result, Ok, Err, IsErr, IsErrAnd, OnOk, refl, sym, ◌∙◌, subst, inl, inr, arith}

@@ -20,7 +20,8 @@ fn is_unstamped(stamps: &Stamps) -> bool
     stamps.places.is_empty() && stamps.terms.roots.is_empty() && stamps.formats.is_empty()
 }
 
-/// `computed` has the columns whose default is no literal, and `is_counted` means AUTOINCREMENT.
+/// Whether the table has no foreign key, no stamps, no column whose default is no literal
+/// (`computed`), and no AUTOINCREMENT (`is_counted`).
 fn has_nothing_more(found: &Table) -> bool
     ensures { IsTrue result ↔
         (found.now ≡ record found.now {
