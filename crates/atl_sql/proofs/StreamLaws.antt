@@ -129,7 +129,8 @@ module _ {S : Type 0} (g : Ghosts S) (sql : List ℕ) (old : Held S) where
       idle = giving.idle;
     }
 
-  -- the query has given the rows `given` at `mid`, and one more step leads to `now`
+  -- The query has given the rows `given` at `mid`, and one more step leads to `now`. The step begins no transaction, a
+  -- crash after it leaves nothing new, and no failure is forgotten (`Survives`).
   module _ (given : List Row) (mid now : Held S) (giving : IsGiving g sql old given mid) (survives : Survives (state g mid) (state g now) (λ _. ⊥)) (idle : mid.in_transaction ≡ false → now.in_transaction ≡ false) where
     clean_before : HasCleanDisk (state g now) → HasCleanDisk (state g mid)
     clean_before clean = omega (arith, survives.clean, clean)

@@ -45,7 +45,7 @@ Any old new = Unit {0}
 module _ {S : Type 0} (g : Ghosts S) where
   -- ---- one statement
 
-  -- the statement `sql` with these parameters leads from `old` to `new`
+  -- the statement `sql` with these parameters leads from `old` to `new` of one connection; a crash leaves nothing new
   module _ (old new : MutBor (Held S)) (sql : List ℕ) (params : Row) (same : new.ghost_name ≡ old.ghost_name) (survives : Survives (state g old.now) (state g new.now) (λ _. ⊥)) where
     -- if no transaction had begun, the statement's result is the error TransactionState, and nothing changed
     abbrev Ended : Result ℕ Error → Type 0

@@ -13,7 +13,7 @@ use atl_descriptions::table::Table as Description;
 use sqlite_schema::code::Terms;
 use sqlite_schema::schema::{Column, Stamps, Table};
 
-/// Stamps are the defaults that read the time.
+/// Whether no column has a default that reads the time (a stamp).
 fn is_unstamped(stamps: &Stamps) -> bool
     ensures { IsTrue result ↔ (stamps.now ≡ record { places = []; terms = []; formats = [] }) }
 {
@@ -47,6 +47,7 @@ fn has_check(checks: &Terms, is_single: bool) -> bool
     }
 }
 
+/// Compares all but the columns.
 fn is_described(found: &Table, made: &Description) -> bool
     ensures { IsTrue result ↔
         (found.now ≡ table made.now.tree made.now.name.now found.now.columns made.now.number
