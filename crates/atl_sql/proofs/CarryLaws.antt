@@ -39,8 +39,7 @@ write_checks_no_reference tables indexes tree free olds news =
 
 -- ---- indexes that make nothing unique find nothing
 
--- if the indexes make nothing unique in table t, the rows `new` and `r` share no unique value (`shares`), whichever
--- columns `target` asks for
+-- if the indexes make nothing unique in table t, rows `new` and `r` share no unique value, whatever `target` asks for
 pub none_share : (t : Table) (target : Option (List ℕ)) (new r : Row) (indexes : List Index)
     → ((i : Index) → Has indexes i → guards i t ≡ false) → list_any (shares target t new r) indexes ≡ false
 none_share t target new r [] plain = refl

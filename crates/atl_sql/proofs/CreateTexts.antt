@@ -37,6 +37,7 @@ pub record IsCreate (before after : Schema) (table : Table) (text : List ℕ) : 
   pub whole : statement_of text (understood before text) ≡ text
   -- the text defines the table, with 0 as the number of its tree
   pub defines : table_defined_by text ≡ Ok (record table { tree = 0 })
+  -- the text has no RETURNING and doesn't read the time
   pub plain : IsPlain (understood before text)
   -- to create this table in the schema `before` gives the schema `after`
   pub after_is : created before (record table { tree = 0 }) ≡ after

@@ -134,8 +134,8 @@ module _ (schema : Schema) (among : (u : Table) → Has all_tables u → Has sch
   -- The upsert of the row `new` leads from `old` to `next`, and v is the row that SQL shows afterwards. The key is in
   -- the columns at the indexes `target`, and the UPDATE sets the terms `project`. Of what the UPDATE reads, the column
   -- at the index `position` is the rowid of the row to change. `params` are the statement's parameters, and `limit` is
-  -- its step limit. An edit of t leaves no work for a foreign key (`unlinked`), and its tree isn't that of a temporary
-  -- table (`plain`).
+  -- how many steps its query may take, if there is a limit. An edit of t leaves no work for a foreign key (`unlinked`),
+  -- and its tree isn't that of a temporary table (`plain`).
   module _ (unlinked : (olds news : List Row) → works schema Enforced 0 t.tree olds news ≡ []) (limit : Option ℕ) (params : Row) (target : List ℕ) (position : ℕ) (project : List Term)
       (plain : (db : Trees) → overlay db [] t.tree ≡ db t.tree) (new v : Row) (old next : Database) where
     -- where a row has the key, the UPDATE of the upsert changes it to one that shows the values `v`

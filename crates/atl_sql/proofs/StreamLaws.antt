@@ -143,7 +143,6 @@ module _ {S : Type 0} (g : Ghosts S) (sql : List ℕ) (old : Held S) where
 
     module _ {A : Type 0} (forms : List Form) (shown : A → Row) where
       -- if the next row of a plain query is refused with `e`, and `r` is the fault of `e`, the read is as promised
-      -- (`Streams`)
       pub not_advanced : {Z : Type 0} (e : Error) (r : Result (Option (Vec A Z)) ReadFault)
           → IsPlain (understood old.schema sql) → IsErrAnd r (λ fault. fault ≡ read_fault e)
           → (HasCleanDisk (state g now) → FailsToAdvance g mid now e) → Streams g sql old forms shown r now

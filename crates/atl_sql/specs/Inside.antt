@@ -11,8 +11,7 @@ use Rattle.sqlite_trees.specs.Tree.{Trees}
 use Rattle.atl_descriptions.specs.Sets.{Set, HasExactly, rows_in, put, puts, drop_key}
 use Rattle.atl_descriptions.specs.Tables.{Part, table_of, no_tables, all_tables, all_trees, HasAll, IsSoundDatabase}
 
--- the schema begins with the ten tables and their indexes (`HasAll`), and the trees are sound under it
--- (`IsSoundDatabase`)
+-- the schema begins with the ten tables and their indexes (`HasAll`), and the database is sound (`IsSoundDatabase`)
 pub record HasTables (db : Database) : Type 0 where
   pub begins : HasAll db.schema
   pub sound : IsSoundDatabase db.schema db.trees

@@ -36,8 +36,8 @@ pub record Writes {S : Type 0} (g : Ghosts S) (own : Statements) (Does : State �
   -- The step has committed nothing, if the disk is clean.
   pub kept : HasCleanDisk (state g new.now) → KeepsCommit (state g old.now) (state g new.now)
   -- On a clean disk a crash leaves only what it could have left before, and only a failure closes the connection.
-  -- A disk in doubt stays so, and no failure is forgotten (`Survives`). The step limit stays, and so does a shield,
-  -- which compares each read with digests of what was written.
+  -- A disk that isn't clean stays so, and no failure is forgotten. The limit on a query's steps stays, and so does a
+  -- shield, which compares each read with digests of what was written (`Survives`).
   pub survives : Survives (state g old.now) (state g new.now) (λ _. ⊥)
 
 -- This statement ran with these parameters, without an error, inside a transaction.
@@ -76,8 +76,7 @@ pub record Transacts {S : Type 0} (g : Ghosts S) (own : Statements)
   -- An error of the transaction is one that a statement of `own`, or the commit, gave, if the disk is clean.
   pub error_given : HasCleanDisk (state g new) → IfErr result (λ e. Gives g own e old new)
   -- On a clean disk a crash leaves what it could have left before, or what the transaction commits (`MayLeave`), and
-  -- only a failure closes the connection. A disk in doubt stays so, and no failure is forgotten. The step limit stays,
-  -- and so does a shield, which compares each read with digests of what was written.
+  -- only a failure closes the connection. A disk that isn't clean stays so, and no failure is forgotten. The limit on a
+  -- query's steps stays, and so does a shield, which compares each read with digests of what was written.
   pub crash : Survives (state g old) (state g new) (MayLeave Before Does (state g old))
-  -- The connection is in no transaction afterwards.
   pub idle : new.in_transaction ≡ false

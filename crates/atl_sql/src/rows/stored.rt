@@ -37,7 +37,7 @@ pub trait Stored: Drop + Sized {
         ensures typed { IfOk result (λ read. IfSome read (λ _. IsTyped forms row.now)) }
         ensures other { IfOk result (λ read. read ≡ None → ¬ IsTyped forms row.now) };
 
-    /// The first format that has the table, and the text of the SELECT that shows all its rows.
+    /// The earliest format that has the table, and the text of the SELECT that shows all its rows.
     fn select_of() -> (Format, &'static str)
         ensures since { result.0 ≡ (select_of_part part).since }
         ensures select { result.1.now ≡ (select_of_part part).select };
