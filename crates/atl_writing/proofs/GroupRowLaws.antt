@@ -47,13 +47,13 @@ module _ {V : Type 0} (lines : ℕ → V → List Row) (more : ℕ) (values : Fi
       let number = same_number e.0 found.0.0 (sym (are.numbered e.0 e.1 x early) ∙ first_of more x y same ∙ are.numbered found.0.0 found.0.1 y found.2) in
       less_apart e.0 found.0.0 (below_has e.0 es found.0 (and_parts _ _ sorted).0 found.1) number)
 
-  -- each row that `lines` gives for an entry of the map is wanted
+  -- each row that `lines` gives for a number and value of the map is wanted
   pub groups_rows : (es : List (ℕ × V)) → es ≡ entries values → (r : Row) → Has (groups_of lines es) r → Wanted r
   groups_rows es same r there =
       let found = flat_has (λ (v : ℕ × V). lines v.0 v.1) es r there in
       are.wanted found.0.0 found.0.1 (entry_got values found.0.0 found.0.1 (subst (λ (l : List (ℕ × V)). Has l found.0) same found.1)) r found.2
 
-  -- an empty table filled with the rows that `lines` gives for all entries has exactly the wanted rows
+  -- an empty table filled with the rows that `lines` gives for all numbers and values has exactly the wanted rows
   pub groups_filled : (rows old : List Row) → old ≡ []
       → HasExactly rows (puts (suc more) (groups_of lines (entries values)) (Has old)) → HasExactly rows Wanted
   groups_filled rows old none made r =
