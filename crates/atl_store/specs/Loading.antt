@@ -150,9 +150,9 @@ pub record TablesStay (old new : State) : Type 0 where
 pub record AfterReads {S : Type 0} (g : Ghosts S) (old new : Held S) : Type 0 where
   -- after the reads the tables are as they were before, if the disk is clean
   pub stays : HasCleanDisk (state g new) → TablesStay (state g old) (state g new)
-  -- A disk that isn't clean stays so, no failure is forgotten, reads tested by digests stay so, and the step limit is
-  -- the same. If the disk is clean, only a failure closes the connection, and a crash leaves only what it could have
-  -- left before (`Survives`).
+  -- A disk that isn't clean stays so, no failure is forgotten, reads tested by digests stay so, and so does the limit
+  -- on a query's steps. If the disk is clean, only a failure closes the connection, and a crash leaves only what it
+  -- could have left before (`Survives`).
   pub survives : Survives (state g old) (state g new) (λ _. ⊥)
   -- after the reads the connection is in no transaction
   pub idle : new.in_transaction ≡ false
@@ -295,9 +295,9 @@ module _ (f : Format) {S : Type 0} (g : Ghosts S) (old : Held S) where
     -- the SELECT doesn't show just one row with the number of the other format (the fault for that is OtherFormat)
     pub of_format : ¬ AreOfOtherFormat f rows
 
-  -- When Damaged may be returned with each rule: it is the first rule that the rows break, in tables made as the format
-  -- has them. OneRow comes however the tables are made, but not for one row of the other format. Ranges also comes,
-  -- however they are made, if the first rule is kept and a value of another table is of another type than its column.
+  -- When Damaged may be returned with each rule: it is the first that the rows break, in tables made as the format has
+  -- them. OneRow, rule 1, comes however the tables are made, but not for one row of the other format. Ranges, rule 2,
+  -- also comes however they are made, if rule 1 is kept and a value of another table isn't of its column's type.
   abbrev pub MayReturnDamaged : Rule → Type 0
   MayReturnDamaged rules.OneRow = BreaksOneRow
   MayReturnDamaged rules.Ranges = (KeepsOneRow × HasOtherType g old (other_selects f)) ⊎ BreaksRule rules.Ranges
@@ -325,8 +325,8 @@ module _ (f : Format) {S : Type 0} (g : Ghosts S) (old : Held S) where
   CannotConfirm = AllSelectsShowTyped g old (other_selects f) × ((¬ AreMade) ⊎ (FailedMeanwhile g old ⊎ RefusesAgain g old false))
 
   -- When Store may be returned: in a transaction, or if the SELECT of the campaign row is refused because of the disk,
-  -- the connection, a size limit or the step limit (`is_failure`).
-  -- Also, where that row keeps the first rule, if another table can't be read or the tables can't be confirmed.
+  -- the connection, size or too many steps (`is_failure`). Also, where that row keeps the first rule, if another table
+  -- can't be read (`CannotRead`) or the tables can't be confirmed (`CannotConfirm`).
   abbrev pub MayReturnStore : Type 0
   MayReturnStore =
       (old.in_transaction ≡ true)
@@ -404,8 +404,8 @@ module _ {S : Type 0} (g : Ghosts S) (old : Held S) where
   pub record LeavesAlone (new : Held S) : Type 0 where
     -- nothing of the connection is changed, if the disk is clean
     pub unchanged : HasCleanDisk (state g new) → ChangesNothing (state g old) (state g new)
-    -- A disk that isn't clean stays so, no failure is forgotten, reads tested by digests stay so, and the step limit is
-    -- the same. If the disk is clean, only a failure closes the connection, and a crash leaves only what it could have
-    -- left before (`Survives`).
+    -- A disk that isn't clean stays so, no failure is forgotten, reads tested by digests stay so, and so does the limit
+    -- on a query's steps. If the disk is clean, only a failure closes the connection, and a crash leaves only what it
+    -- could have left before (`Survives`).
     pub survives : Survives (state g old) (state g new) (λ _. ⊥)
     pub mode : new.in_transaction ≡ old.in_transaction
