@@ -28,8 +28,8 @@ use Rattle.atl_sql.proofs.EditLaws.{Swaps, Loses}
 use Rattle.atl_sql.proofs.UpsertLaws.{hits, given, Upserted}
 use Rattle.atl_sql.proofs.StatementLaws.{mode}
 
--- The statement `text`, read as `command`, that wrote (`Writes`) in a state of this schema, with these parameters, did
--- what its command says (`Does`) to the database of this schema. `count` is how many rows it reports.
+-- If the statement `text`, read as `command` without RETURNING, wrote (`Writes`) in a state of this schema, it did what
+-- the command says (`Does`) to the database of this schema. `count` is how many rows it reports.
 pub write_does_command : (schema : Schema) (old new : State) (command : Command) (text : List ℕ) (params : Row) (count : ℕ)
     → old.now.schema ≡ schema → (w : Writes old new None command text params count)
     → Does old.step_limit mode params (record { schema = schema; trees = old.now.trees }) text None command (Ok (w.tally, new.now))
