@@ -39,8 +39,7 @@ write_checks_no_reference tables indexes tree free olds news =
 
 -- ---- indexes that make nothing unique find nothing
 
--- if the indexes make nothing unique in table t, the rows `new` and `r` share no unique value (`shares`), whichever
--- columns `target` asks for
+-- if the indexes make nothing unique in table t, rows `new` and `r` share no unique value, whatever `target` asks for
 pub none_share : (t : Table) (target : Option (List ℕ)) (new r : Row) (indexes : List Index)
     → ((i : Index) → Has indexes i → guards i t ≡ false) → list_any (shares target t new r) indexes ≡ false
 none_share t target new r [] plain = refl
@@ -57,7 +56,7 @@ pub sound_under : (db : Database) (has : HasTables db)
     → IsSoundDatabase (all_tables_and_others has.begins.tables has.begins.indexes) db.trees
 sound_under db has = subst (λ s. IsSoundDatabase s db.trees) has.begins.made_of has.sound
 
--- t is the table of a campaign that a write changes; `old` and `new` are the database before and after it
+-- t is one of the ten tables, which a write changes; `old`, the database before it, has all ten, and `new` is it after
 module _ (t : Table) (old new : Database) (has : HasTables old) (ours : Has all_tables t) where
   -- the schema of `old`: the ten tables with their indexes, and then its other tables and indexes
   abbrev schema : Schema
@@ -66,14 +65,14 @@ module _ (t : Table) (old new : Database) (has : HasTables old) (ours : Has all_
   abbrev OthersStay : Type 0
   OthersStay = (u : Table) → Has schema.tables u → u.tree ≢ t.tree → new.trees u.tree ≡ old.trees u.tree
 
-  -- if `new` has the schema of `old`, and trees that are sound under this schema, `new` still has a campaign's tables
-  -- (`HasTables`)
+  -- if `new` has the schema of `old`, and trees that are sound under this, `new` has the ten tables (`HasTables`)
   pub stays_there : new.schema ≡ schema → IsSoundDatabase schema new.trees → HasTables new
   stays_there is sound = record {
     begins = record { tables = has.begins.tables; indexes = has.begins.indexes; made_of = is; free = has.begins.free; plain = has.begins.plain };
     sound = subst (λ s. IsSoundDatabase s new.trees) (sym is) sound;
   }
 
+  -- if the schema stays, and each of its tables but t, no table and no index is gone (`Carries`)
   pub carried : new.schema ≡ schema → OthersStay → Carries old new
   carried is others =
       let same : new.schema ≡ old.schema = is ∙ sym has.begins.made_of in

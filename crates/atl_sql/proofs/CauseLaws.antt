@@ -1,7 +1,7 @@
 -- Laws on causes: an error that a step returns was given by a statement of the step, or by the commit (`Gives`).
 -- `own` is the set of statements that the step may run; `more` is a set that has all of these. `e` is the error.
--- `old` and `new` are the connection, or its state, before and after a call, a step or a transaction. `g` is the kind
--- of store.
+-- `old` and `new` are a connection, or its state, before and after a call, step or transaction. `g` is the kind of
+-- store.
 use Rattle.std.proofs.Common.{◌≡◌, ◌⊎◌, ◌≤◌, ℕ, List, zero, suc, true, false, true≢false, IsTrue, Result, Ok, Err, IsErrAnd, IfErr, refl, sym, ap, ◌∙◌, subst, inl, inr, arith}
 use Rattle.std.proofs.lemmas.Bool.{cases_Bool}
 use Rattle.sqlite_disk.specs.Disk.{MoreFaults}

@@ -37,6 +37,7 @@ pub record IsCreate (before after : Schema) (table : Table) (text : List ℕ) : 
   pub whole : statement_of text (understood before text) ≡ text
   -- the text defines the table, with 0 as the number of its tree
   pub defines : table_defined_by text ≡ Ok (record table { tree = 0 })
+  -- the text has no RETURNING and doesn't read the time
   pub plain : IsPlain (understood before text)
   -- to create this table in the schema `before` gives the schema `after`
   pub after_is : created before (record table { tree = 0 }) ≡ after
@@ -45,8 +46,8 @@ pub record IsCreate (before after : Schema) (table : Table) (text : List ℕ) : 
   -- the schema `after` lacks no table of sequences, which only AUTOINCREMENT needs
   pub uncounted : lacks_sequence after ≡ false
 
--- running a CREATE TABLE text (`IsCreate`) on a database of the schema `before` adds the table, without rows
--- (`CreatesTable`)
+-- a CREATE TABLE text (`IsCreate`) that runs without an error on a database of the schema `before` adds the table,
+-- without rows (`CreatesTable`)
 pub makes_table : (before after : Schema) (table : Table) (text : List ℕ) → IsCreate before after table text
     → (old new : State) (count : ℕ) → old.now.schema ≡ before → Executes text [] old new (Ok count)
     → CreatesTable before after table.tree old.now new.now
@@ -126,7 +127,7 @@ module _ {S A : Type 0} (g : Ghosts S) {r : Result A Error} {a b : MutBor (Held 
       → MakesNextTable before after text → Writes g (OneStatement text []) Does r a b → Writes g Creations Does r a b
   creating text makes one = among_only g text [] (makes.0, refl) one
 
-  -- a step that ran the CREATE text of the next table made this table (`Extends`)
+  -- a step by the CREATE text of the next table is a step by those of the ten parts that makes this table (`Extends`)
   pub made_by : {before after : Schema} (text : List ℕ) → MakesNextTable before after text
       → Writes g (OneStatement text []) (RunsStatement text []) r a b → Writes g Creations (Extends before after) r a b
   made_by text makes one = weaker g makes.1 (creating text makes one)

@@ -3,7 +3,7 @@
 -- the test that a row passes if it is to go, and `found` has the rowids of the rows that pass. A query reads `db'`,
 -- which has its temporary tables beside the trees of `db`. An edit takes some rows out of one tree and puts others in.
 -- Before and after it the rowids in the tree are integers, no two alike (`AreKeyedByRowid`). `params` are the
--- parameters of a statement, `q` is its query, and `limit` its step limit, if it has one.
+-- parameters of a statement, `q` is its query, and `limit` is how many steps this may take, if there is a limit.
 use Rattle.std.proofs.Common.{◌≡◌, ◌≢◌, ◌⊎◌, ℕ, pos, negsuc, Bool, true, false, List, [], ◌∷◌, ◌++◌, map, flat_map, Option, Some, None, Result, Ok, Err, refl, sym, ap, ◌∙◌, subst, inl, inr}
 use Rattle.std.specs.Prelude.{cond}
 use Rattle.std.specs.List.{list_all}

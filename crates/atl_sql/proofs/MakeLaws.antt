@@ -28,8 +28,8 @@ use Rattle.atl_sql.proofs.EditLaws.{Swaps, Loses}
 use Rattle.atl_sql.proofs.UpsertLaws.{hits, given, Upserted}
 use Rattle.atl_sql.proofs.StatementLaws.{mode}
 
--- The statement `text`, read as `command`, that wrote (`Writes`) in a state of this schema, with these parameters, did
--- what its command says (`Does`) to the database of this schema. `count` is how many rows it reports.
+-- If the statement `text`, read as `command` without RETURNING, wrote (`Writes`) in a state of this schema, it did what
+-- the command says (`Does`) to the database of this schema. `count` is how many rows it reports.
 pub write_does_command : (schema : Schema) (old new : State) (command : Command) (text : List ℕ) (params : Row) (count : ℕ)
     → old.now.schema ≡ schema → (w : Writes old new None command text params count)
     → Does old.step_limit mode params (record { schema = schema; trees = old.now.trees }) text None command (Ok (w.tally, new.now))
@@ -134,8 +134,8 @@ module _ (schema : Schema) (among : (u : Table) → Has all_tables u → Has sch
   -- The upsert of the row `new` leads from `old` to `next`, and v is the row that SQL shows afterwards. The key is in
   -- the columns at the indexes `target`, and the UPDATE sets the terms `project`. Of what the UPDATE reads, the column
   -- at the index `position` is the rowid of the row to change. `params` are the statement's parameters, and `limit` is
-  -- its step limit. An edit of t leaves no work for a foreign key (`unlinked`), and its tree isn't that of a temporary
-  -- table (`plain`).
+  -- how many steps its query may take, if there is a limit. An edit of t leaves no work for a foreign key (`unlinked`),
+  -- and its tree isn't that of a temporary table (`plain`).
   module _ (unlinked : (olds news : List Row) → works schema Enforced 0 t.tree olds news ≡ []) (limit : Option ℕ) (params : Row) (target : List ℕ) (position : ℕ) (project : List Term)
       (plain : (db : Trees) → overlay db [] t.tree ≡ db t.tree) (new v : Row) (old next : Database) where
     -- where a row has the key, the UPDATE of the upsert changes it to one that shows the values `v`

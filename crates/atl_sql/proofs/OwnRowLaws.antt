@@ -54,10 +54,11 @@ changed_to project head world r =
     visible_row campaign_table
     (cast_row campaign_table (eval_all project ((campaign_row_values head world ++ rowid r ∷ shown campaign_table (stored_own_row head world)) ∷ r ∷ [])))
 
--- an upsert of `campaign` inserts a row if there is none, or changes the only one by the terms `project`; tables stay
+-- an upsert of `campaign` inserts a row of the second format if there is none, or changes the only one by the terms
+-- `project`; the ten tables are there afterwards, and all other tables are kept
 pub record PutsOwn (project : List Term) (head : CampaignRowValue) (world : List ℕ) (old new : Database) : Type 0 where
   pub first : rows_in campaign_table old.trees ≡ [] → Puts campaign_table 1 (campaign_row head world) old new
-  -- a campaign row `before` that is there is replaced by the row `after` that the UPDATE makes of it, if both have id 1
+  -- if the only campaign row is `before`, it is replaced by the row `after` that the UPDATE makes of it; both have id 1
   pub again : (before after : Row) → take 1 before ≡ int 1 ∷ [] → take 1 after ≡ int 1 ∷ []
       → HasExactly (rows_in campaign_table old.trees) (λ r. r ≡ before)
       → ((r : Row) → visible_row campaign_table r ≡ before → changed_to project head world r ≡ after)

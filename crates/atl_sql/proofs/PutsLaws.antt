@@ -1,5 +1,5 @@
--- Laws on putting the rows of a list, one after another, into a table: putting some, and then the others, puts them
--- all.
+-- Laws on putting the rows of a list, one by one, into a table: putting some, and then the others, puts them all.
+-- Each is said of a database with the ten tables (`HasTables`), and keeps all other tables (`DoesInside`).
 -- The key of the table is its first `key` columns. Of the list `all`, the rows `xs` are put next, and `rest` later.
 -- `old`, `mid` and `new` are the database or the state at first, before `xs` is put, and after.
 use Rattle.std.proofs.Common.{◌≡◌, ◌≢◌, ◌↔◌, ◌++◌, ℕ, List, [], ◌∷◌, refl, sym, ◌∙◌, subst, inl, inr}
@@ -52,7 +52,7 @@ module _ (table : Table) (key : ℕ) where
   puts_one : (x : Row) (old new : Database) → Puts table key x old new → PutsRows table key (x ∷ []) old new
   puts_one x old new one = record { rows = one.rows; others = one.others }
 
-  -- inside a transaction, putting the next rows, those of the list `xs`, leaves the rows `rest` to put (`IsPartlyPut`)
+  -- if the rows `xs` and then `rest` are still to put (`IsPartlyPut`), and those of `xs` are put, only `rest` is left
   pub inside_rows : (xs rest all : List Row) (old mid new : State)
       → DoesInside HasTables (IsPartlyPut table key (xs ++ rest) all) old mid
       → DoesInside HasTables (PutsRows table key xs) mid new
@@ -100,7 +100,7 @@ module _ (table : Table) (key : ℕ) where
   one_put row rows is old new did =
       (did.0, λ has. let made = did.1 has in record { does = subst (λ list. PutsRows table key list old.now new.now) (sym is) (puts_one row old.now new.now made.does); tables = made.tables; carries = made.carries })
 
-  -- inside a transaction, putting the rows `xs`, from `a` to `b`, and then `ys`, from `b` to `c`, puts the rows of both
+  -- putting the rows `xs`, from `a` to `b`, and then the rows `ys`, from `b` to `c`, puts the rows of both lists
   pub inside_both : (xs ys : List Row) (a b c : State) → DoesInside HasTables (PutsRows table key xs) a b
       → DoesInside HasTables (PutsRows table key ys) b c → DoesInside HasTables (PutsRows table key (xs ++ ys)) a c
   inside_both xs ys a b c one two = (

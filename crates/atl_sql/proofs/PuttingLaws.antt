@@ -85,7 +85,7 @@ module _ {S : Type 0} (g : Ghosts S) (table : Table) (key : ℕ) where
       left = λ row there. so_far.left row (subst (λ (l : List Row). Has l row) (sym is) (has_right xs rest row there));
     }
 
-    -- if putting the rows `xs` ends with an error, which is handed on as the result `r`, so does putting all rows
+    -- if some rows are put, and putting `xs` then ends with an error, handed on as the result `r`, so does putting all
     pub putting_failed : {Does : State → State → Type 0} {A X : Type 0} {e : Error} {r : Result A Error} {a b c : MutBor (Held S)}
         → HasPutSome g table key was all a b → WritesRows {A = X} g table key xs (Err e) b c → HandsOn e r
         → Writes g (RowStatements (upsert table key) (Has all)) Does r a c

@@ -97,7 +97,7 @@ select_meaning Own =
 select_meaning part =
     record { command = λ more indexes. refl; plain = λ more indexes. (refl, refl); unlisted = λ more indexes. refl; same = λ db. refl; rows = λ db. refl; whole = λ r. refl }
 
--- under the tables of the first format that has a part, the part's SELECT shows all rows of the part's table (`Reads`)
+-- under the tables of the earliest format that has a part, the part's SELECT shows all rows of its table (`Reads`)
 pub reads_part : (part : Part) (count : ℕ) → count ≡ length (select_of_part part).names
     → Reads (select_of_part part).since (select_of_part part).select (select_of_part part).in_table count
 reads_part part count same old new rows h has =
@@ -110,7 +110,7 @@ reads_part part count same old new rows h has =
     let says : IsPermutation (listing.in_table old.now.trees) (map cut rows) = subst (λ was. IsPermutation was (map cut rows)) (is.rows old.now.trees) (whole_shown shown cut is.whole (old.now.trees (table_of part).tree) rows all) in
     subst (λ n. IsPermutation (listing.in_table old.now.trees) (map (first_columns n) rows)) (sym same) says
 
--- under the tables of the first format that has it, a part's SELECT has no RETURNING and doesn't read the time
+-- under the tables of the earliest format that has it, a part's SELECT has no RETURNING and doesn't read the time
 pub part_plain : (part : Part) (schema : Schema) → HasTablesOf (select_of_part part).since schema
     → IsPlain (understood schema (select_of_part part).select)
 part_plain part schema has =

@@ -1,6 +1,7 @@
 -- Laws on a SELECT inside a transaction: what it leaves, and what is left once the transaction is rolled back.
 -- `rows` are the rows that it shows, and `e` is the error of a SELECT that is refused. `r` is the result of the call
--- that reads, and `g` the kind of store. `KeepsCommit` says that nothing was committed.
+-- that reads, and `g` the kind of store. `KeepsCommit` says that nothing was committed. `Asks` promises that Ok has the
+-- rows that the SELECT shows and Err the fault of its refusal. `ReadsRows` promises it of rows read by their forms.
 use Rattle.std.proofs.Common.{◌≡◌, ◌≢◌, ◌≤◌, ◌⊎◌, ℕ, Bool, List, [], true, false, cond, IsTrue, Option, Some, None, Result, Ok, Err, IsErrAnd, IfOk, IfErr, map, length, refl, sym, ap, ◌∙◌, subst, inl, inr, arith}
 use Rattle.std.specs.declared.vec.Vec.{Vec}
 use Rattle.sqlite_trees.specs.declared.store.Store.{Ghosts}
@@ -54,7 +55,8 @@ pub no_fewer : (faults : ℕ) → faults ≤ faults
 no_fewer faults = omega arith
 
 -- The connection is `old` at first, `begun` once a transaction has begun, `mid` after the SELECT, and `end` after the
--- rollback.
+-- rollback, outside a transaction. Premises: after each step a crash leaves nothing new, and no failure is forgotten
+-- (`Survives`). On a clean disk the rollback undoes all.
 module _ {S : Type 0} (g : Ghosts S) (sql : List ℕ) (old begun mid end : Held S) (begins : begun ≡ record old { in_transaction = true }) (ended : end.in_transaction ≡ false)
     (one : Survives (state g begun) (state g mid) (λ _. ⊥)) (back : HasCleanDisk (state g end) → IsRolledBack (state g mid) (state g end)) (two : Survives (state g mid) (state g end) (λ _. ⊥)) where
   begun_inside : IsTrue (state g begun).in_transaction

@@ -1,4 +1,5 @@
--- Laws on reading the rows of a query one by one as they come (`stream`).
+-- Laws on reading the rows of a query one by one as they come (`stream`). Such a read promises (`Streams`): Ok has all
+-- rows, each read by the forms, or None; Err has the fault of the refusal; nothing is committed.
 -- `old` is the connection before the query, `mid` once it has given the rows `given`, and `now` or `new` after a later
 -- step. `r` is the result of the read. `forms` are the forms of the columns, and `shown` gives the row that a value is
 -- read of. `g` is the kind of store. A plain query (`IsPlain`) has no RETURNING and doesn't read the time.
@@ -128,7 +129,8 @@ module _ {S : Type 0} (g : Ghosts S) (sql : List ℕ) (old : Held S) where
       idle = giving.idle;
     }
 
-  -- the query has given the rows `given` at `mid`, and one more step leads to `now`
+  -- The query has given the rows `given` at `mid`, and one more step leads to `now`. The step begins no transaction, a
+  -- crash after it leaves nothing new, and no failure is forgotten (`Survives`).
   module _ (given : List Row) (mid now : Held S) (giving : IsGiving g sql old given mid) (survives : Survives (state g mid) (state g now) (λ _. ⊥)) (idle : mid.in_transaction ≡ false → now.in_transaction ≡ false) where
     clean_before : HasCleanDisk (state g now) → HasCleanDisk (state g mid)
     clean_before clean = omega (arith, survives.clean, clean)
@@ -141,7 +143,6 @@ module _ {S : Type 0} (g : Ghosts S) (sql : List ℕ) (old : Held S) where
 
     module _ {A : Type 0} (forms : List Form) (shown : A → Row) where
       -- if the next row of a plain query is refused with `e`, and `r` is the fault of `e`, the read is as promised
-      -- (`Streams`)
       pub not_advanced : {Z : Type 0} (e : Error) (r : Result (Option (Vec A Z)) ReadFault)
           → IsPlain (understood old.schema sql) → IsErrAnd r (λ fault. fault ≡ read_fault e)
           → (HasCleanDisk (state g now) → FailsToAdvance g mid now e) → Streams g sql old forms shown r now
@@ -180,7 +181,7 @@ module _ {S : Type 0} (g : Ghosts S) (sql : List ℕ) (old : Held S) where
       read_more old_items new_items row read adds =
           ap (map shown) adds.1 ∙ map_at_end shown old_items adds.0 ∙ ap (λ rs. rs ++ shown adds.0 ∷ []) read ∙ ap (λ r. map (first_columns (length forms)) given ++ r ∷ []) adds.2 ∙ sym (map_at_end (first_columns (length forms)) given row)
 
-      -- and if the rows given so far are in the forms of their columns, so are these and the next row
+      -- if the rows given so far are in the forms of their columns, and the next row was read, all of them are
       pub typed_more : (old_items new_items : List A) (row : Row) → AreTyped forms given
           → AddsRow forms shown old_items row new_items → AreTyped forms (given ++ row ∷ [])
       typed_more old_items new_items row typed adds one there = elim (has_either given (row ∷ []) one there) [

@@ -162,7 +162,7 @@ conflict_clause target q = record { target = Some target; update = Some q }
 -- An upsert of the key in the columns `target`. Its UPDATE sets the terms `project` in the row whose rowid is at the
 -- index `position` of what it reads. An edit of the table t leaves no work for a foreign key (`unlinked`), and the tree
 -- is one of the file, not that of a temporary table (`plain`). `params` are the statement's parameters, and `limit` is
--- its step limit.
+-- how many steps its query may take, if there is a limit.
 module _ (schema : Schema) (t : Table) (unlinked : (olds news : List Row) → works schema Enforced 0 t.tree olds news ≡ []) (limit : Option ℕ) (params : Row)
     (target : List ℕ) (position : ℕ) (project : List Term) (plain : (db : Trees) → overlay db [] t.tree ≡ db t.tree) where
   abbrev upsert_task : Task

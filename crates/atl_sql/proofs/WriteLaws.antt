@@ -1,5 +1,6 @@
 -- Laws on writes inside a transaction: what one statement, or several steps together, do, and which error they give.
 -- `own` is the set of statements that a write may run; `Does` says what the write does, of the states before and after.
+-- On a clean disk a write (`Writes`) that ends with Ok did `Does` by statements of `own`; an error is one a call gave.
 -- `a` is the connection before the first step; `b`, `c` and `d` are it after each step. `g` is the kind of store.
 -- `r` is the result of the steps: what the last one returned, or the error of the one that failed.
 use Rattle.std.proofs.Common.{◌≡◌, ℕ, List, false, IsTrue, Result, Ok, Err, IsErr, IsErrAnd, OnOk, refl, sym, ◌∙◌, subst, inl, inr, arith}
@@ -44,7 +45,7 @@ Any old new = Unit {0}
 module _ {S : Type 0} (g : Ghosts S) where
   -- ---- one statement
 
-  -- the statement `sql` with these parameters leads from `old` to `new`
+  -- the statement `sql` with these parameters leads from `old` to `new` of one connection; a crash leaves nothing new
   module _ (old new : MutBor (Held S)) (sql : List ℕ) (params : Row) (same : new.ghost_name ≡ old.ghost_name) (survives : Survives (state g old.now) (state g new.now) (λ _. ⊥)) where
     -- if no transaction had begun, the statement's result is the error TransactionState, and nothing changed
     abbrev Ended : Result ℕ Error → Type 0
@@ -193,8 +194,7 @@ module _ {S : Type 0} (g : Ghosts S) where
         survives = whole.survives;
       }
 
-  -- steps that have done `First` without an error, and one more that does `Second`, have together done `Does`
-  -- (`HasDone`)
+  -- steps that did `First`, and one more that did `Second`, all without an error, did `Does`, if it follows from both
   pub goes_on : {own : Statements} {First Second Does : State → State → Type 0} {u : Unit {0}} {a b c : MutBor (Held S)}
       → ((old mid new : State) → First old mid → Second mid new → Does old new) → HasDone g own First a b
       → Writes g own Second (Ok u) b c → HasDone g own Does a c

@@ -11,8 +11,8 @@ abbrev pub is_memory : Error → Bool
 is_memory (SqliteFailure code.OutOfMemory) = true
 is_memory _ = false
 
--- Whether an error says that the disk, the connection, a size limit or the step limit stopped a statement.
--- The disk failed, is full or is damaged, the connection is shut, something is too big, or it takes too many steps.
+-- Whether an error says that a failure stopped a statement: the disk failed, is full or is damaged, the connection is
+-- shut, something is too big, or the statement takes more steps than its limit.
 abbrev pub is_failure : Error → Bool
 is_failure (SqliteFailure code.SystemIoFailure) = true
 is_failure (SqliteFailure code.DatabaseCorrupt) = true

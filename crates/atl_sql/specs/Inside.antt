@@ -11,12 +11,12 @@ use Rattle.sqlite_trees.specs.Tree.{Trees}
 use Rattle.atl_descriptions.specs.Sets.{Set, HasExactly, rows_in, put, puts, drop_key}
 use Rattle.atl_descriptions.specs.Tables.{Part, table_of, no_tables, all_tables, all_trees, HasAll, IsSoundDatabase}
 
--- the schema begins with the tables of a campaign, and the trees are sound under it (`IsSoundDatabase`)
+-- the schema begins with the ten tables and their indexes (`HasAll`), and the database is sound (`IsSoundDatabase`)
 pub record HasTables (db : Database) : Type 0 where
   pub begins : HasAll db.schema
   pub sound : IsSoundDatabase db.schema db.trees
 
--- the schema of the database has nothing: no table, no index, and no `views` (specs/Tables of atl_descriptions)
+-- the schema of the database has nothing: no table, index, view or trigger, nor what the database keeps as it is
 abbrev pub IsBlank : Database → Type 0
 IsBlank db = db.schema ≡ no_tables
 
@@ -26,7 +26,7 @@ pub record Carries (old new : Database) : Type 0 where
   pub tables : (t : Table) → Has old.schema.tables t → Has new.schema.tables t
   -- each index of the schema before is in the schema after
   pub indexes : (i : Index) → Has old.schema.indexes i → Has new.schema.indexes i
-  -- a table whose tree isn't one of the ten tables' holds what it held
+  -- each table of the schema before holds what it held, unless its tree is that of one of the ten tables
   pub others : (t : Table) → Has old.schema.tables t → ¬ Has all_trees t.tree → new.trees t.tree ≡ old.trees t.tree
 
 -- `Does` is done, the tables of a campaign are there afterwards, and all others are kept with their indexes (`Carries`)
@@ -35,8 +35,8 @@ pub record DoesAndKeeps (Does : Database → Database → Type 0) (old new : Dat
   pub tables : HasTables new
   pub carries : Carries old new
 
--- A step on tables that are as `Before` says does `Does` to them, and keeps all other tables (`DoesAndKeeps`). The
--- connection is in a transaction afterwards exactly if it was before.
+-- A step: if the database was as `Before` says, `Does` is done to it, the ten tables are there, and all others are kept
+-- (`DoesAndKeeps`). In any case the connection is in a transaction afterwards exactly if it was before.
 abbrev pub DoesInside : (Database → Type 0) → (Database → Database → Type 0) → State → State → Type 0
 DoesInside Before Does old new = (new.in_transaction ≡ old.in_transaction) × (Before old.now → DoesAndKeeps Does old.now new.now)
 
@@ -49,8 +49,8 @@ pub record Alters (table : Table) (S : Set) (old new : Database) : Type 0 where
   pub rows : HasExactly (rows_in table new.trees) S
   pub others : (t : Table) → Has all_tables t → t.tree ≢ table.tree → new.trees t.tree ≡ old.trees t.tree
 
--- The rows of each part of the list `parts` become what `Becomes` says of the rows before and those after; the tables
--- of all other parts are as they were.
+-- For each part of the list `parts`, `Becomes` holds of the part, of the rows of its table before, and of those after;
+-- the tables of all other parts are as they were.
 pub record Changes (Becomes : Part → List Row → List Row → Type 0) (parts : List Part) (old new : Database) : Type 0 where
   pub done : (part : Part) → Has parts part → Becomes part (rows_in (table_of part) old.trees) (rows_in (table_of part) new.trees)
   pub others : (part : Part) → ¬ Has parts part → new.trees (table_of part).tree ≡ old.trees (table_of part).tree
@@ -75,8 +75,8 @@ Drops table key k old new = Alters table (drop_key key k (Has (rows_in table old
 abbrev pub PutsRows : Table → ℕ → List Row → Database → Database → Type 0
 PutsRows table key news old new = Alters table (puts key news (Has (rows_in table old.trees))) old new
 
--- A transaction that succeeded: `Does` is done and other tables are kept (`DoesAndKeeps`), if the tables were as
--- `Before` says. All that the tables hold is committed. Afterwards the connection is open and in no transaction.
+-- A transaction that succeeded. If the tables were as `Before` says, `Does` is done, the ten tables are there, and all
+-- others are kept (`DoesAndKeeps`). All is committed. Afterwards the connection is open and in no transaction.
 pub record Commits (Before : Database → Type 0) (Does : Database → Database → Type 0) (old new : State) : Type 0 where
   pub does : Before old.now → DoesAndKeeps Does old.now new.now
   pub committed : new.committed ≡ new.now

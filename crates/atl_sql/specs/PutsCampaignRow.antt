@@ -7,16 +7,16 @@ use Rattle.atl_descriptions.specs.Tables.{campaign_table}
 use Rattle.atl_sql.specs.Shown.{CampaignRowValue, campaign_row, campaign_row_in}
 use Rattle.atl_sql.specs.Inside.{Puts}
 
--- What the upsert of the campaign row does: into the empty table it inserts one of the values `head` with this world
--- text. A row of the second format, if it is the only one, gets these values, and keeps its own world text.
+-- What putting the campaign row does. If the table is empty, a row of the second format is added, with the values
+-- `head` and the text `world`. If its only row is of the second format, it gets these values and keeps its world text.
 pub record PutsCampaignRow (head : CampaignRowValue) (world : List ℕ) (old new : Database) : Type 0 where
   pub first : rows_in campaign_table old.trees ≡ [] → Puts campaign_table 1 (campaign_row head world) old new
   pub again : (before : CampaignRowValue) (text : List ℕ)
       → HasExactly (rows_in campaign_table old.trees) (λ r. r ≡ campaign_row before text)
       → Puts campaign_table 1 (campaign_row head text) old new
 
--- a campaign row of the values `head` in the first format, whatever its world text (`before`), if it is the only row,
--- becomes the one in the second, with the world text `text`
+-- if the only campaign row is of the first format and has the values `head`, with any world text (`before`), it becomes
+-- the row of the second format with these values and the world text `text`
 abbrev pub UpgradesCampaignRow : CampaignRowValue → List ℕ → Database → Database → Type 0
 UpgradesCampaignRow head text old new =
     (before : List ℕ)

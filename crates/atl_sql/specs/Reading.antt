@@ -22,7 +22,7 @@ pub record Rests (old new : State) : Type 0 where
   pub was_open : IsTrue new.is_open → IsTrue old.is_open
   pub same : IsTrue new.is_open → ((new.now ≡ old.committed) ⊎ (new.now ≡ old.now)) × (new.committed ≡ old.committed)
 
--- `before` is the connection as the SELECT finds it: with the tables and the step limit of `old`.
+-- `before` is the connection as the SELECT finds it: with the tables of `old`, and its limit on a query's steps.
 -- It is open exactly if `old` is, and its disk has failed no less often.
 pub record IsAsked (old before : State) : Type 0 where
   pub was_open : IsTrue before.is_open → IsTrue old.is_open
@@ -56,10 +56,9 @@ module _ {S : Type 0} (g : Ghosts S) (sql : List ℕ) (old : Held S) where
     -- On a clean disk an open connection was open before, with its tables as they were or as last committed (`Rests`).
     pub rests : HasCleanDisk (state g new) → Rests (state g old) (state g new)
     -- On a clean disk a crash leaves only what it could have left before, and only a failure closes the connection.
-    -- A disk in doubt stays so, and no failure is forgotten (`Survives`). The step limit stays, and so does a shield,
-    -- which compares each read with digests of what was written.
+    -- A disk that isn't clean stays so, and no failure is forgotten. The limit on a query's steps stays, and so does a
+    -- shield, which compares each read with digests of what was written (`Survives`).
     pub survives : Survives (state g old) (state g new) (λ _. ⊥)
-    -- The connection is in no transaction afterwards.
     pub idle : new.in_transaction ≡ false
 
   -- With Ok all rows that the SELECT shows are read, each value in the form of its column. The fault is OtherType for a
@@ -83,10 +82,9 @@ module _ {S : Type 0} (g : Ghosts S) (sql : List ℕ) (old : Held S) where
     -- On a clean disk an open connection was open before, with its tables as they were or as last committed (`Rests`).
     pub rests : HasCleanDisk (state g new) → Rests (state g old) (state g new)
     -- On a clean disk a crash leaves only what it could have left before, and only a failure closes the connection.
-    -- A disk in doubt stays so, and no failure is forgotten (`Survives`). The step limit stays, and so does a shield,
-    -- which compares each read with digests of what was written.
+    -- A disk that isn't clean stays so, and no failure is forgotten. The limit on a query's steps stays, and so does a
+    -- shield, which compares each read with digests of what was written (`Survives`).
     pub survives : Survives (state g old) (state g new) (λ _. ⊥)
-    -- The connection is in no transaction afterwards.
     pub idle : new.in_transaction ≡ false
 
   -- The rows of a query are read one by one: Ok has all of them, or None; Err has the fault of the refusal. Nothing is
@@ -100,15 +98,14 @@ module _ {S : Type 0} (g : Ghosts S) (sql : List ℕ) (old : Held S) where
         × AreTyped forms rows))
     -- Err has the fault of the SELECT's refusal.
     pub refused : HasCleanDisk (state g new) → IfErr result RefusesToSelect
-    -- After Ok the connection has the same tables and step limit (`IsAsked`), so the SELECT can be asked again.
+    -- After Ok the connection has the same tables and limit on steps (`IsAsked`), so the SELECT can be asked again.
     pub same : HasCleanDisk (state g new) → OnOk result (IsAsked (state g old) (state g new))
     -- On a clean disk an open connection was open before, with its tables as they were or as last committed (`Rests`).
     pub rests : HasCleanDisk (state g new) → Rests (state g old) (state g new)
     -- On a clean disk a crash leaves only what it could have left before, and only a failure closes the connection.
-    -- A disk in doubt stays so, and no failure is forgotten (`Survives`). The step limit stays, and so does a shield,
-    -- which compares each read with digests of what was written.
+    -- A disk that isn't clean stays so, and no failure is forgotten. The limit on a query's steps stays, and so does a
+    -- shield, which compares each read with digests of what was written (`Survives`).
     pub survives : Survives (state g old) (state g new) (λ _. ⊥)
-    -- The connection is in no transaction afterwards.
     pub idle : new.in_transaction ≡ false
 
 -- the list `new` is `old` and then one element read from this row, whose first values are of these forms

@@ -61,11 +61,11 @@ mail_row faction text = int faction ∷ Blob text ∷ []
 abbrev pub report_row : ℕ → List ℕ → Row
 report_row faction text = int faction ∷ Text text ∷ []
 
--- the key of a row of `has`: unit, sort (0 item, 1 skill), thing
+-- the key of a row of `has`: unit, sort (0 item, 1 skill), and the index of the item or skill
 abbrev pub has_key : ℕ → ℕ → ℕ → Row
 has_key unit sort thing = int unit ∷ int sort ∷ int thing ∷ []
 
--- a row of `has`: unit, sort (0 item, 1 skill), thing, amount
+-- a row of `has`: unit, sort (0 item, 1 skill), the index of the item or skill, and the amount or the days
 abbrev pub has_row : ℕ → ℕ → ℕ → ℕ → Row
 has_row unit sort thing amount = int unit ∷ int sort ∷ int thing ∷ int amount ∷ []
 

@@ -36,25 +36,28 @@ pub record Writes {S : Type 0} (g : Ghosts S) (own : Statements) (Does : State �
   -- The step has committed nothing, if the disk is clean.
   pub kept : HasCleanDisk (state g new.now) → KeepsCommit (state g old.now) (state g new.now)
   -- On a clean disk a crash leaves only what it could have left before, and only a failure closes the connection.
-  -- A disk in doubt stays so, and no failure is forgotten (`Survives`). The step limit stays, and so does a shield,
-  -- which compares each read with digests of what was written.
+  -- A disk that isn't clean stays so, and no failure is forgotten. The limit on a query's steps stays, and so does a
+  -- shield, which compares each read with digests of what was written (`Survives`).
   pub survives : Survives (state g old.now) (state g new.now) (λ _. ⊥)
 
 -- This statement ran with these parameters, without an error, inside a transaction.
 abbrev pub RunsStatement : List ℕ → Row → State → State → Type 0
 RunsStatement sql params old new = IsTrue old.in_transaction × (count : ℕ) × ExecutesInside 0 sql params old new (Ok count)
 
--- A step (`Writes`) that puts this row, whose key is its first `key` columns, if `HasTables` holds (`Puts`).
+-- A step (`Writes`) by the one upsert of this row, whose key is its first `key` columns. If `HasTables` holds, it puts
+-- the row into `table` (`Puts`).
 abbrev pub WritesRow : {S A : Type 0} → Ghosts S → Table → ℕ → Row → Result A Error → MutBor (Held S) → MutBor (Held S) → Type 0
 WritesRow g table key row result old new =
     Writes g (OneStatement (upsert table key) row) (DoesInside HasTables (Puts table key row)) result old new
 
--- A step (`Writes`) that deletes the rows whose first `key` columns are `k`, if `HasTables` holds (`Drops`).
+-- A step (`Writes`) by the one DELETE of `table` by its first `key` columns, with `k` as their values. If `HasTables`
+-- holds, it deletes the rows in which they are `k` (`Drops`).
 abbrev pub TakesOut : {S A : Type 0} → Ghosts S → Table → ℕ → Row → Result A Error → MutBor (Held S) → MutBor (Held S) → Type 0
 TakesOut g table key k result old new =
     Writes g (OneStatement (deletion table key) k) (DoesInside HasTables (Drops table key k)) result old new
 
--- A step (`Writes`) that puts these rows in turn, by their first `key` columns, if `HasTables` holds (`PutsRows`).
+-- A step (`Writes`) by upserts of rows of the list `rows` alone, whose key is their first `key` columns. If `HasTables`
+-- holds, it puts all of them into `table`, one after another (`PutsRows`).
 abbrev pub WritesRows : {S A : Type 0} → Ghosts S → Table → ℕ → List Row
     → Result A Error → MutBor (Held S) → MutBor (Held S) → Type 0
 WritesRows g table key rows result old new =
@@ -73,8 +76,7 @@ pub record Transacts {S : Type 0} (g : Ghosts S) (own : Statements)
   -- An error of the transaction is one that a statement of `own`, or the commit, gave, if the disk is clean.
   pub error_given : HasCleanDisk (state g new) → IfErr result (λ e. Gives g own e old new)
   -- On a clean disk a crash leaves what it could have left before, or what the transaction commits (`MayLeave`), and
-  -- only a failure closes the connection. A disk in doubt stays so, and no failure is forgotten. The step limit stays,
-  -- and so does a shield, which compares each read with digests of what was written.
+  -- only a failure closes the connection. A disk that isn't clean stays so, and no failure is forgotten. The limit on a
+  -- query's steps stays, and so does a shield, which compares each read with digests of what was written.
   pub crash : Survives (state g old) (state g new) (MayLeave Before Does (state g old))
-  -- The connection is in no transaction afterwards.
   pub idle : new.in_transaction ≡ false

@@ -20,7 +20,7 @@ is_natural (Real x) = false
 is_natural (Text t) = false
 is_natural (Blob b) = false
 
--- whether a value is of a column's type, INTEGER, TEXT or BLOB; NULL is of none, and no value is of another type
+-- whether a value is of a column's type: INTEGER, TEXT or BLOB. NULL is of none, and for any other type it is false.
 abbrev pub is_of_kind : Kind → Value → Bool
 is_of_kind kinds.Integer (Int n) = true
 is_of_kind kinds.Text (Text t) = true

@@ -93,8 +93,8 @@ fn create_each<S: Alter>(tx: &mut Transaction<'_, S>, tables: &[Description]) ->
     Ok(())
 }
 
-/// Makes the ten tables, each without a row, in a database without tables, indexes and views
-/// (`IsBlank`).
+/// Makes the ten tables, each without a row, if the database has no table, index, view or trigger
+/// (`IsBlank`), and the disk is clean.
 pub fn create_tables<S: Alter>(tx: &mut Transaction<'_, S>) -> Result<(), Error>
     ensures { Writes S.Store Creations (DoesInside IsBlank AreEmpty) result tx.old.conn
         tx.new.conn }
@@ -102,7 +102,7 @@ pub fn create_tables<S: Alter>(tx: &mut Transaction<'_, S>) -> Result<(), Error>
     create_each(tx, &described_tables())
 }
 
-/// Makes the table `market`, which the first format doesn't have.
+/// Runs the CREATE TABLE text of `market`, which the first format doesn't have. If Ok, it has run.
 pub fn create_market<S: Alter>(tx: &mut Transaction<'_, S>) -> Result<(), Error>
     ensures { Writes S.Store (OneStatement (creation_of Markets) [])
         (RunsStatement (creation_of Markets) []) result tx.old.conn tx.new.conn }

@@ -396,8 +396,8 @@ module _ {S : Type 0} (g : Ghosts S) where
       → ReadsSome g old selects (λ a. AreOfFormat Second (state g old).now (rows a)) r new
   reads_second selects rows old new r reads = reads_as selects _ _ old new r (λ a are. record { each = λ read there. inl (every_part read.0, are read there) }) reads
 
-  -- if reading by `selects` fails, so does a reading that is to give something else (`Q`) by the same SELECTs with the
-  -- same fault
+  -- if reading by `selects` fails, so does a read by the same SELECTs, with the same fault, that is to find something
+  -- else (`Q`)
   pub fails_as : {A B : Type 0} (selects : List (List ℕ × List Form)) (P : A → Type 0) (Q : B → Type 0) (old new : Held S) (fault : LoadFault) (one : Result (Option A) LoadFault) (r : Result (Option B) LoadFault)
       → ReadsSome g old selects P one new → one ≡ Err fault → IsErrAnd r (λ says. says ≡ fault) → ReadsSome g old selects Q r new
   fails_as selects P Q old new fault one (Ok o) first was says = absurd says

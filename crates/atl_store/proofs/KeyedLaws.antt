@@ -89,7 +89,8 @@ entries_apart {V} (e ∷ es) sorted = (
   entries_apart es (and_parts _ _ sorted).1,
 )
 
--- the rows that `line` makes of a map's entries have different integers in column 0, if it puts the number there
+-- the rows that `line` makes of a map's numbers and values have different integers in column 0, if it puts the number
+-- there
 pub lines_keys : {V : Type 0} (line : ℕ → V → Row) → ((n : ℕ) (v : V) → column (line n v) 0 ≡ Int (pos n))
     → (m : FinMap nat_cmp V) → HaveDistinctIntegers 0 (rows_in_order line (entries m))
 lines_keys {V} line numbered m = numbers_keys (λ (e : ℕ × V). line e.0 e.1) (λ (e : ℕ × V). pos e.0) 0 (λ e. numbered e.0 e.1) (entries m) (entries_apart (entries m) (in_order m))
@@ -232,8 +233,8 @@ made_placed {p} {A} {part} {stored} {values} is has placed are apart = record {
   apart = λ _. placed_keys is placed apart;
 }
 
--- All parts are made of what was read (`IsMadeOf`), if `head` is the only campaign row of `p`. For this all other parts
--- were read in their order, and each is made so (`IsMadeAs`).
+-- `p` is made of `head` and of the rows read (`IsMadeOf`), if `head` is its only campaign row, all other parts were
+-- read in their order, and each of these is made of its rows (`IsMadeAs`).
 pub made_of : {head : StoredCampaignRow} {reads : ReadRows} {p : Parts}
     → map (λ read. read.0) reads ≡ other_parts Second → p.campaign ≡ head ∷ [] → AllByRecursion (IsMadeAs p) reads
     → IsMadeOf head reads p

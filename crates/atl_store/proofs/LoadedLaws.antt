@@ -261,7 +261,7 @@ module _ (f : Format) {S : Type 0} (g : Ghosts S) {A : Type 0} (rows : A → Rea
       → IsMadeOf head (rows a) p → GathersAll f g old w p
   gathered_with a is p head same made = let all = found (Some a) is in gathered_of f g old own w (rows a) p row all.0 all.1 head same made
 
-  -- a value in a table but `campaign` that is not of its column's form refuses the load: Damaged by the rule of ranges
+  -- a value in a table but `campaign` that isn't of its column's form refuses the load: Damaged by the second rule
   pub mistyped_refuses : o ≡ None → RefusesToLoadIn f g old (Damaged Ranges)
   mistyped_refuses is = inl (own_kept f g old own w row, found None is)
 

@@ -14,7 +14,8 @@ use Rattle.atl_descriptions.specs.Tables.{HasAll}
 use Rattle.atl_store.proofs.SchemaTableLaws.{one_schema}
 
 module _ {S : Type 0} (g : Ghosts S) where
-  -- a connection just opened on a database that stores a campaign keeps it, if a crash leaves its last commit
+  -- a connection just opened (`Opens`) on a sound database (`IsLive`) that stores a campaign keeps it, if a crash
+  -- leaves its last commit
   pub keeps_stored : (new : Held S) → Opens (state g new) → IsLive (state g new)
       → ((db : Trees) → (state g new).may_leave db → db ≡ (state g new).committed.trees)
       → (text : List ℕ) (c : CampaignValue) → Stores (state g new).now.trees text c → Keeps (state g new) text c

@@ -98,7 +98,7 @@ failed_changes_nothing old new Commits clean off survives idle settled = record 
   shuts = survives.closes clean;
 }
 
--- the fault of a creation that an error of the database ended
+-- the database was ready for `create`, which failed as with Store or Memory (`FailsToCreate`)
 module _ {S : Type 0} (g : Ghosts S) (text : List ℕ) (c : CampaignValue) (old new : Held S) (ready : IsReadyToCreate (state g old)) (fails : FailsToCreate g text c old new) where
   refused_by_fault : (fault : CreateFault) → fault ≢ create.NotEmpty → BreaksOffCreation g text c old new fault
       → RefusesToCreate g text c old new fault

@@ -114,7 +114,8 @@ module _ {S : Type 0} (g : Ghosts S) (text : List ℕ) (old new : Held S) where
   fails_to_load load.OtherFormat refused = refused
   fails_to_load load.Memory refused = inl refused
 
-  -- a fault of reading the new text, once a campaign is loaded, is one that a check of `upgrade` may return
+  -- if the tables hold a campaign (`HasOld`), a fault of reading the new text is one that a check of `upgrade` may
+  -- return, by its name there
   pub fails_to_read : (fault : WorldFault) → Reads (λ (w : WorldValue). w) (Err fault) (world_of text)
       → HasOld g text old new → FailsCheck g text old new (new_world_fault fault)
   fails_to_read world.NotToml reads was = (was, reads, λ e. absurd cc)

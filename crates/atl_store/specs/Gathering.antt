@@ -198,8 +198,7 @@ module _ {S : Type 0} (g : Ghosts S) (old : Held S) where
     pub answered : Selects g select.0 before rows
 
   -- When reading by the SELECTs `selects` may return each fault: Store if one is refused for another cause than memory,
-  -- Memory if one is refused for lack of memory or shows rows.
-  -- It returns no other fault.
+  -- Memory if one is refused for lack of memory or shows rows. It returns no other fault.
   abbrev pub FailsToRead : List (List ℕ × List Form) → LoadFault → Type 0
   FailsToRead selects Store = RefusesOne g old selects read.Store ⊎ RefusesOne g old selects read.Refused
   FailsToRead selects (Damaged rule) = ⊥
@@ -229,8 +228,7 @@ module _ {S : Type 0} (g : Ghosts S) (old : Held S) where
       × FailsToQuery (selection_with_ids books_table 2) [] (state g old) (state g during) e
       × (is_memory e ≡ memory)
 
-  -- When the test of the schema may return each fault: Store or Memory, by what the SELECT of the books is refused
-  -- for.
+  -- When the test of the schema may return each fault: Store or Memory, by what the SELECT of the books is refused for.
   -- Store also comes if the schema isn't the format's; then that SELECT isn't asked. No other fault is returned.
   abbrev pub FailsToConfirm : Format → LoadFault → Type 0
   FailsToConfirm f Store = (¬ HasTablesOf f old.schema) ⊎ (HasTablesOf f old.schema × IsRefusedAgain false)
@@ -276,9 +274,8 @@ pub record IsMadeOf (head : StoredCampaignRow) (reads : ReadRows) (p : Parts) : 
 
 -- ---- all of it
 
--- All tables were read: the campaign row keeps the first rule, and each value is of its column's form.
--- If the tables are the format's, they have exactly the rows in `p`, with a text of the world `w`, and rowids that
--- differ.
+-- All tables were read: the campaign row keeps the first rule, and each value is of its column's form. If the tables
+-- are the format's, they have exactly the rows in `p`, with a text of the world `w`, and rowids that differ.
 pub record GathersAll (f : Format) {S : Type 0} (g : Ghosts S) (old : Held S) (w : WorldValue) (p : Parts) : Type 0 where
   -- the SELECT of `campaign` showed one row, which keeps the first rule
   pub one : KeepsOneRow f g old

@@ -51,7 +51,7 @@ abbrev pub HoldsCampaign : {S : Type 0} → Ghosts S → Held S → List ℕ →
 HoldsCampaign g conn text c = HasCleanDisk (state g conn) → Keeps (state g conn) text c
 
 -- After a fault the connection, while it is open, keeps the campaign `before`.
--- The connection is shut only if the disk failed again. A crash leaves the campaign `before` or `after`, never a part.
+-- The connection is shut only if the disk failed again. A crash leaves the campaign `before` or the campaign `after`.
 -- `faults` counts the failures of the disk before the call.
 pub record LeavesAfterFault (faults : ℕ) (s : State) (text : List ℕ) (before after : CampaignValue) : Type 0 where
   pub still : IsTrue s.is_open → Keeps s text before

@@ -81,8 +81,7 @@ rows_read text p Books = map books_values p.books
 rows_read text p Markets = map market_values p.markets
 
 -- The tables of a format have exactly the rows in `p`, each as often as `p` has it. The campaign row has the world text
--- `text`, which `p` lacks.
--- In `p` there is no row of a part that the format doesn't have.
+-- `text`, which `p` lacks. In `p` there is no row of a part that the format doesn't have.
 pub record HaveRows (f : Format) (db : Trees) (text : List ℕ) (p : Parts) : Type 0 where
   -- the table of each part of the format has exactly the part's rows in `p`
   pub rows : (part : Part) → Has (parts_in f) part → IsPermutation (rows_in (table_of part) db) (rows_read text p part)
@@ -151,10 +150,9 @@ pub record TablesStay (old new : State) : Type 0 where
 pub record AfterReads {S : Type 0} (g : Ghosts S) (old new : Held S) : Type 0 where
   -- after the reads the tables are as they were before, if the disk is clean
   pub stays : HasCleanDisk (state g new) → TablesStay (state g old) (state g new)
-  -- A disk that isn't clean stays so, no failure is forgotten, reads tested by digests stay so, and the step limit is
-  -- the same.
-  -- If the disk is clean, only a failure closes the connection, and a crash leaves only what it could have left before
-  -- (`Survives`).
+  -- A disk that isn't clean stays so, no failure is forgotten, reads tested by digests stay so, and so does the limit
+  -- on a query's steps. If the disk is clean, only a failure closes the connection, and a crash leaves only what it
+  -- could have left before (`Survives`).
   pub survives : Survives (state g old) (state g new) (λ _. ⊥)
   -- after the reads the connection is in no transaction
   pub idle : new.in_transaction ≡ false
@@ -297,10 +295,9 @@ module _ (f : Format) {S : Type 0} (g : Ghosts S) (old : Held S) where
     -- the SELECT doesn't show just one row with the number of the other format (the fault for that is OtherFormat)
     pub of_format : ¬ AreOfOtherFormat f rows
 
-  -- When Damaged may be returned with each rule: it is the first rule that the rows break, in tables made as the format
-  -- has them. OneRow comes however the tables are made, but not for one row of the other format.
-  -- Ranges also comes, however they are made, if the first rule is kept and a value of another table is of another type
-  -- than its column.
+  -- When Damaged may be returned with each rule: it is the first that the rows break, in tables made as the format has
+  -- them. OneRow, rule 1, comes however the tables are made, but not for one row of the other format. Ranges, rule 2,
+  -- also comes however they are made, if rule 1 is kept and a value of another table isn't of its column's type.
   abbrev pub MayReturnDamaged : Rule → Type 0
   MayReturnDamaged rules.OneRow = BreaksOneRow
   MayReturnDamaged rules.Ranges = (KeepsOneRow × HasOtherType g old (other_selects f)) ⊎ BreaksRule rules.Ranges
@@ -328,8 +325,8 @@ module _ (f : Format) {S : Type 0} (g : Ghosts S) (old : Held S) where
   CannotConfirm = AllSelectsShowTyped g old (other_selects f) × ((¬ AreMade) ⊎ (FailedMeanwhile g old ⊎ RefusesAgain g old false))
 
   -- When Store may be returned: in a transaction, or if the SELECT of the campaign row is refused because of the disk,
-  -- the connection, a size limit or the step limit (`is_failure`).
-  -- Also, where that row keeps the first rule, if another table can't be read or the tables can't be confirmed.
+  -- the connection, size or too many steps (`is_failure`). Also, where that row keeps the first rule, if another table
+  -- can't be read (`CannotRead`) or the tables can't be confirmed (`CannotConfirm`).
   abbrev pub MayReturnStore : Type 0
   MayReturnStore =
       (old.in_transaction ≡ true)
@@ -365,15 +362,14 @@ pub record KeepsIn (f : Format) (s : State) (text : List ℕ) (c : CampaignValue
   pub rows : HoldsIn f s.now.trees text c
 
 -- What Ok of loading in a format says: if the disk is clean, the tables of the format hold the campaign and a text of
--- the world.
--- The campaign is good, and in the first format without markets (`Fits`); nothing of it is marked.
+-- the world. The campaign is good, and in the first format without markets (`Fits`); nothing of it is marked.
 pub record LoadsIn (f : Format) {S : Type 0} (g : Ghosts S) (old new : Held S)
     (w : WorldValue) (c : MarkedCampaign) : Type 0 where
   -- if the disk is clean, the world text that the tables hold reads as the world
   pub world : HasCleanDisk (state g new) → world_of_text f (world_text (state g new)) ≡ Ok w
   -- if the disk is clean, the tables of the format hold the campaign, with their world text (`KeepsIn`)
   pub keeps : HasCleanDisk (state g new) → KeepsIn f (state g new) (world_text (state g new)) c.value
-  -- in the first format the campaign uses no markets
+  -- in the first format nothing is in stock, and the amounts under the entries of markets are 0
   pub fits : Fits f c.value
   -- the campaign is good
   pub good : IsGood w c.value
@@ -408,9 +404,8 @@ module _ {S : Type 0} (g : Ghosts S) (old : Held S) where
   pub record LeavesAlone (new : Held S) : Type 0 where
     -- nothing of the connection is changed, if the disk is clean
     pub unchanged : HasCleanDisk (state g new) → ChangesNothing (state g old) (state g new)
-    -- A disk that isn't clean stays so, no failure is forgotten, reads tested by digests stay so, and the step limit is
-    -- the same.
-    -- If the disk is clean, only a failure closes the connection, and a crash leaves only what it could have left
-    -- before (`Survives`).
+    -- A disk that isn't clean stays so, no failure is forgotten, reads tested by digests stay so, and so does the limit
+    -- on a query's steps. If the disk is clean, only a failure closes the connection, and a crash leaves only what it
+    -- could have left before (`Survives`).
     pub survives : Survives (state g old) (state g new) (λ _. ⊥)
     pub mode : new.in_transaction ≡ old.in_transaction

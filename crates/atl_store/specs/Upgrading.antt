@@ -134,10 +134,9 @@ module _ {S : Type 0} (g : Ghosts S) (text : List ℕ) (old new : Held S) where
   FailsInTransaction Memory = BreaksOffUpgrade true
   FailsInTransaction fault = ⊥
 
-  -- Why an upgrade is refused with this fault, and what it leaves, if the disk is clean.
-  -- A check failed and nothing is changed, or the transaction broke off.
-  -- While the connection is open its tables are as they were.
-  -- A crash leaves what it could have left before, or the upgraded campaign.
+  -- Why an upgrade is refused with this fault, and what it leaves, if the disk is clean. A check failed and nothing is
+  -- changed, or the transaction broke off. While the connection is open its tables are as they were. A crash leaves
+  -- what it could have left before, or the upgraded campaign.
   pub record RefusesToUpgrade (fault : UpgradeFault) : Type 0 where
     -- if the disk is clean, a check failed and nothing is changed, or the transaction broke off with this fault
     pub cause : HasCleanDisk (state g new) → (FailsCheck fault × LeavesAlone g old new) ⊎ FailsInTransaction fault

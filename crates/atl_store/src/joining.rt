@@ -51,7 +51,8 @@ fn arrival_of(campaign: &Campaign, number: u32) -> Arrival<'_>
     }
 }
 
-/// A campaign row that is there keeps its world text, so that an empty one is given here.
+/// Puts the campaign row, the faction and its unit. A campaign row that is there keeps its world
+/// text, so an empty one is given here.
 fn put_newcomer<S: Alter>(
     tx: &mut Transaction<'_, S>,
     campaign: &Campaign,

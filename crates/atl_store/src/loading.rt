@@ -21,8 +21,8 @@ use own::read_own;
 use sqlite::{Alter, Connection};
 use std::alloc::Global;
 
-/// Damaged by the second rule, `Ranges`, if a value in a table other than `campaign` is of another
-/// type than its column.
+/// Reads the rows of all tables of the format, and the world. A value of another type than its
+/// column, in another table than `campaign`, gives Damaged by the second rule, `Ranges`.
 fn gather<S: Alter>(
     alloc: Global,
     conn: &mut Connection<S>,

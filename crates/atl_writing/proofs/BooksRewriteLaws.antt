@@ -1,7 +1,7 @@
 -- Laws on writing the marked amounts of the books: one entry and one thing after another, until all are written.
 -- To rewrite amounts is to make the rows of the marked ones among them those of the campaign `c`, where an amount of 0
 -- has no row (`RewritesAmounts`). Tests and lists of numbers give an entry or a thing by its index. `e` is an entry or
--- its index, `t` a thing or its index, and `r` a row of `books`.
+-- its index, `t` a thing or its index, and `r` a row of `books`. Each step is in a database with the ten tables.
 use Rattle.std.proofs.Common.{◌≡◌, ◌≢◌, ◌+◌, ◌*◌, ◌<◌, ◌≤◌, ◌&&◌, ◌||◌, nat_le, ℕ, zero, suc, pos, Bool, true, false, List, [], ◌∷◌, map, take, refl, sym, ap, ◌∙◌, subst, inl, inr, true≢false, arith}
 use Rattle.std.specs.List.{range_with_len}
 use Rattle.std.specs.Ordering.{nat_cmp, int_eq, eq_by_cmp}
@@ -222,7 +222,8 @@ module _ (c : MarkedCampaign) (e : BooksEntry) (t : Thing) where
 -- ---- one entry after another, and one thing after another
 
 -- The rewriting begins at `old`, and the next entry or thing is rewritten from `mid` to `new`. `now` are those that are
--- left at `mid`, and `rest` those that are left at `new`. `things` tests a thing, by its index.
+-- left at `mid`, and `rest` those that are left at `new`. Of an entry only amounts of things are meant for which the
+-- test `things` is true.
 module _ (c : MarkedCampaign) where
   abbrev wanted : Row → Type 0
   wanted r = BooksRowsOf c.value.books r

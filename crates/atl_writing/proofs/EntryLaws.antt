@@ -1,6 +1,6 @@
 -- Laws on maps by number: look-ups find just the entries, and a table filled with the entries' rows has the map's rows.
--- `m` is a map, and `es` a list of numbers with values, such as its entries. `line` makes the row of a number and its
--- value; that the row begins with the number is `numbered`. The first `key` columns of a row are its key. `old` are the
+-- `m` is a map. An entry of it is a number with its value, and `es` is a list of such. `line` makes the row of an
+-- entry; that the row begins with the number is `numbered`. The first `key` columns of a row are its key. `old` are the
 -- rows of a table before the rows `news` are put into it, and `rows` those after.
 use Rattle.std.proofs.Common.{◌≡◌, ◌≢◌, ◌⊎◌, ℕ, true, false, cond, List, [], ◌∷◌, ◌++◌, take, Some, Less, Equal, Greater, refl, sym, ap, ◌∙◌, subst, inl, inr, true≢false}
 use Rattle.std.specs.List.{flat_map}

@@ -2,7 +2,7 @@
 -- A part is filled if its table, where that was empty, gets exactly the rows of the campaign `c` (`Fills`). `text` is
 -- the world text. `old` is the database before a step, `new` after it, and `mid` between two steps; `ps` and `qs` are
 -- the parts that the first and the second step fill. `line` makes the row of a number and its value, `lines` makes
--- several, and `es` are the entries of the map `m`.
+-- several, and `es` are the entries of the map `m`: its numbers, each with its value.
 use Rattle.std.proofs.Common.{◌≡◌, ◌++◌, ℕ, suc, true, List, [], ◌∷◌, take, subst, inl, inr}
 use Rattle.std.specs.List.{list_all, range_with_len}
 use Rattle.std.specs.Ordering.{nat_cmp}

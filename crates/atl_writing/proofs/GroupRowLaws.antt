@@ -2,7 +2,7 @@
 -- The wanted rows (`Wanted`) are those of all units, or of all regions, which are `values` by number. `lines` gives the
 -- rows of a number and its value, and the key of a row is its first `more + 1` columns.
 -- `old` is the state, or the list of the table's rows, before a write, and `new` or `rows` after it; `mid` is the state
--- after rows are deleted and before others are put.
+-- after rows are deleted and before others are put. Each step is in a database with the ten tables.
 use Rattle.std.proofs.Common.{◌≡◌, ◌≢◌, ◌⊎◌, ◌↔◌, ℕ, suc, true, List, [], ◌∷◌, take, Some, None, refl, sym, ap, ◌∙◌, subst, inl, inr}
 use Rattle.std.specs.Ordering.{nat_cmp}
 use Rattle.std.specs.FinMap.{FinMap, entries, get, is_sorted}
@@ -47,13 +47,13 @@ module _ {V : Type 0} (lines : ℕ → V → List Row) (more : ℕ) (values : Fi
       let number = same_number e.0 found.0.0 (sym (are.numbered e.0 e.1 x early) ∙ first_of more x y same ∙ are.numbered found.0.0 found.0.1 y found.2) in
       less_apart e.0 found.0.0 (below_has e.0 es found.0 (and_parts _ _ sorted).0 found.1) number)
 
-  -- each row that `lines` gives for an entry of the map is wanted
+  -- each row that `lines` gives for a number and value of the map is wanted
   pub groups_rows : (es : List (ℕ × V)) → es ≡ entries values → (r : Row) → Has (groups_of lines es) r → Wanted r
   groups_rows es same r there =
       let found = flat_has (λ (v : ℕ × V). lines v.0 v.1) es r there in
       are.wanted found.0.0 found.0.1 (entry_got values found.0.0 found.0.1 (subst (λ (l : List (ℕ × V)). Has l found.0) same found.1)) r found.2
 
-  -- an empty table filled with the rows that `lines` gives for all entries has exactly the wanted rows
+  -- an empty table filled with the rows that `lines` gives for all numbers and values has exactly the wanted rows
   pub groups_filled : (rows old : List Row) → old ≡ []
       → HasExactly rows (puts (suc more) (groups_of lines (entries values)) (Has old)) → HasExactly rows Wanted
   groups_filled rows old none made r =

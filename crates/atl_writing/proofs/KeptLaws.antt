@@ -71,7 +71,7 @@ module _ {V : Type 0} (part : Part) (line : ℕ → V → Row) (values : Campaig
           absurd (let there = sym of.2 ∙ ap (get (values c)) number ∙ none in cc),
     ))
 
-    -- putting the rows of all entries, each beginning with its number, fills the part (`FillsPart`)
+    -- putting the rows of all numbers with their values, each beginning with its number, fills the part (`FillsPart`)
     pub kept_filled : (c : CampaignValue) (es : List (ℕ × V)) → es ≡ entries (values c) → (old new : Database)
         → PutsRows (table_of part) 1 (rows_in_order line es) old new → FillsPart c part old new
     kept_filled c =

@@ -1,7 +1,7 @@
 -- Laws on the table `market`: one row for each region and item, if the stock is not 0.
 -- `c` is the campaign that is written. `n` or `region` is the number of a region, and `stock` what the region has of
 -- the item. To rewrite rows is to make them those of the campaign (`RewritesChosenStocks`). `old` is the state before
--- the row is put or deleted, and `new` after it.
+-- the row is put or deleted, and `new` after it. Each step is in a database with the ten tables.
 use Rattle.std.proofs.Common.{◌≡◌, ◌≢◌, ◌||◌, ℕ, pos, Bool, true, false, [], ◌∷◌, Option, Some, None, take, unwrap_or, refl, sym, ap, ◌∙◌, subst, inr, true≢false}
 use Rattle.std.proofs.lemmas.Bool.{and_parts, and_from}
 use Rattle.std.specs.Ordering.{nat_cmp}

@@ -1,4 +1,4 @@
--- Laws on `write_marked`: the marked rows of each table are written, one table after another.
+-- Laws on `write_marked`: in a database with the ten tables the marked rows of each are written, one after another.
 -- `c` is the campaign with its marks. A part is rewritten if its marked rows become those of the campaign and its other
 -- rows stay (`Becomes`). `old` is the database, or the state, before a step or all steps, `new` after it, and `mid`
 -- between two. `ps` and `qs` are the parts that the first and the second step rewrite; `own` is the campaign row.

@@ -1,4 +1,4 @@
--- Laws on rewriting the rows of a table that pass a test, one step after another.
+-- Laws on rewriting the rows of a table that pass a test, one step after another, in a database with the ten tables.
 -- To rewrite is to put the wanted rows (`Wanted`) that pass the test in place of the old ones. `old` is the database,
 -- or the state, before the first step, `mid` before the step that a law is on, and `new` after it.
 use Rattle.std.proofs.Common.{◌≡◌, ◌≢◌, ◌⊎◌, ◌↔◌, ◌||◌, ℕ, pos, Bool, true, false, List, [], ◌∷◌, take, Some, None, refl, sym, ap, ◌∙◌, subst, inl, inr, true≢false}

@@ -1,7 +1,7 @@
 -- Laws on writing a single item or skill of a unit: its row alone, of the table `has`, is put or deleted.
 -- `unit` and `thing` are numbers, `sort` is the kind of the thing (item or skill), and `amount` what the unit has of it
 -- in the campaign `c`. To rewrite rows is to make them those of the campaign (`RewritesThings`). `old` is the state
--- before the row is put or deleted, and `new` after it.
+-- before the row is put or deleted, and `new` after it. Each step is in a database with the ten tables.
 use Rattle.std.proofs.Common.{◌≡◌, ◌≢◌, ◌==◌, ◌||◌, ℕ, pos, Bool, true, false, [], ◌∷◌, take, refl, sym, ap, ◌∙◌, subst, inr, true≢false, arith}
 use Rattle.std.proofs.lemmas.Bool.{and_parts, and_from}
 use Rattle.std.proofs.Math.Bool.{and-false, and-or_distrib_left}

@@ -133,7 +133,8 @@ module _ (text : List ℕ) (c : CampaignValue) (old mid new : Database) (first :
       rows part = rows_stay part (λ e. absurd cc) (in_first part (λ e. absurd cc))
 
 -- In a database of the first format, to add the table `market`, from `start` to `mid`, and then to give the campaign
--- row the second format and the world text `text`, from `mid` to `end`, writes the upgrade (`WritesUpgrade`).
+-- row the second format and the world text `text`, from `mid` to `end`, writes the upgrade: if the tables held the
+-- campaign `c` without stocks, they hold it in the second format, with this text (`WritesUpgrade`).
 pub upgrade_done : (text : List ℕ) (c : CampaignValue) (start mid end : State)
     → DoesInside IsFirstFormat AddsMarkets start mid
     → DoesInside HasTables (UpgradesCampaignRow (campaign_row_of c) text) mid end

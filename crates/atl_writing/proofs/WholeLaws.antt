@@ -22,8 +22,7 @@ use Rattle.atl_sql.proofs.CarryLaws.{carries_then}
 use Rattle.atl_sql.proofs.WriteLaws.{on_ok_of_error, HandsOn, weaker, two_steps}
 use Rattle.atl_containers.proofs.SlotLaws.{on_err}
 
--- two steps inside a transaction, the first on tables that are as `Before` says, and the second on a campaign's tables
--- (`HasTables`), are one step that does both
+-- two steps, the first on tables that are as `Before` says, the second on the ten tables, are one step that does both
 pub inside_then : (Before : Database → Type 0) (First Second : Database → Database → Type 0) (a b c : State)
     → DoesInside Before First a b → DoesInside HasTables Second b c → DoesInside Before (DoesBoth First Second) a c
 inside_then Before First Second a b c one two = (
@@ -49,7 +48,7 @@ module _ {S : Type 0} (g : Ghosts S) {own : Statements} {A : Type 0} {r : Result
   done_as {First = First} {Does = Does} said one =
       weaker g (λ old new did. inside_weaker HasTables First Does old new (λ has. said old.now new.now) did) one
 
-  -- a write that succeeds and a second one after it are one write, which does what both together do (`Does`)
+  -- a write that succeeds and a second one after it are one write, which does `Does`, if this follows from what both do
   pub then_done : {First Second Does : Database → Database → Type 0} {X : Type 0} {x : X} {a b d : MutBor (Held S)}
       → ((old mid new : Database) → First old mid → Second mid new → Does old new)
       → Writes g own (DoesInside HasTables First) (Ok x) a b → Writes g own (DoesInside HasTables Second) r b d

@@ -54,7 +54,7 @@ WritesChanges c old new =
 
 -- ---- tables that hold what is not marked of a campaign
 
--- the table's rows with a key that isn't marked are exactly the wanted ones; any rows may be under marked keys
+-- of the rows with a key that isn't marked, the table has exactly the wanted ones; under marked keys it may have any
 abbrev pub HasUnmarked : Table → (Row → Bool) → Set → Trees → Type 0
 HasUnmarked table is_marked Wanted trees = (r : Row) → is_marked r ≡ false → Has (rows_in table trees) r ↔ Wanted r
 

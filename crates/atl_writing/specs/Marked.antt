@@ -62,8 +62,8 @@ is_marked_amount marks entry thing = nat_le (suc entry) entry_count && contains 
 abbrev pub amount_marked : FinSet nat_cmp → Row → Bool
 amount_marked marks r = entry_and_thing_pass (is_marked_amount marks) r
 
--- Whether a row of a part's table is marked, by its key. The campaign row always counts as marked, since `own_after`
--- looks at its mark.
+-- Whether a row of a part's table is marked, by its key. Each row of `campaign` counts as marked here; what it says
+-- after a write goes by the mark `row`.
 abbrev pub is_marked : Marks → Part → Row → Bool
 is_marked marks Own = λ r. true
 is_marked marks Factions = begins_marked marks.factions

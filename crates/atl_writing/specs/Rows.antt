@@ -119,7 +119,7 @@ rows_for own c Markets = MarketRowsOf c.regions
 pub record Holds (trees : Trees) (text : List ℕ) (c : CampaignValue) : Type 0 where
   pub rows : (part : Part) → HasExactly (rows_in (table_of part) trees) (rows_for (row_of_campaign text c) c part)
 
--- the tables of a format have exactly the rows of the world text and the campaign
+-- the tables of the format `f` have exactly the rows of the world text and the campaign; the campaign row names `f`
 pub record HoldsIn (f : Format) (trees : Trees) (text : List ℕ) (c : CampaignValue) : Type 0 where
   pub rows : (part : Part) → Has (parts_in f) part
       → HasExactly (rows_in (table_of part) trees) (rows_for (campaign_row_in f (campaign_row_of c) text) c part)

@@ -13,7 +13,7 @@ use Rattle.atl_descriptions.specs.Sets.{AreKeyedByRowid}
 use Rattle.atl_descriptions.specs.Tables.{IsFirstFormatOnly, market_table, parts_in, table_of}
 
 -- The database has exactly the tables and indexes of the first format, and its trees list and obey the schema.
--- The rowids of each table are integers, no two alike.
+-- In each of these tables the rowids are integers, no two alike.
 pub record IsFirstFormat (db : Database) : Type 0 where
   pub just : IsFirstFormatOnly db.schema
   pub keyed : (table : Table) → Has (map table_of (parts_in First)) table → AreKeyedByRowid (db.trees table.tree)

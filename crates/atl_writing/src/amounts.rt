@@ -1,5 +1,5 @@
 //! Writes the amounts of one owner, row by row: a unit's goods, or a region's stocks. Each call is
-//! a step of a transaction: an error is one that the database gave.
+//! a step of a transaction on the ten tables and a clean disk; an error is the database's.
 ghost use Rattle.std.specs.Prelude.{ℕ};
 ghost use Rattle.sqlite.specs.Order.{Row as SqlRow};
 ghost use Rattle.sqlite.specs.Table.{Table};

@@ -1,6 +1,6 @@
 //! Writes the campaign row: in a founding, a join, a change, and an upgrade; and tests the id and
-//! the format of one. Each write is a step of a transaction: an error is one that the database
-//! gave.
+//! the format of one. Each write is a step of a transaction on the ten tables and a clean disk; an
+//! error is the database's.
 ghost use Rattle.std.specs.Prelude.{◌≡◌, pos, ◌↔◌, IsTrue};
 ghost use Rattle.atl_world.specs.Formats.{format_number};
 ghost use Rattle.atl_writing.specs.Rows.{campaign_row_of};

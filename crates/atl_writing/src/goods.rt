@@ -1,5 +1,6 @@
 //! Writes what units have into the table `has`: a row for each item and each skill of a unit whose
-//! amount is not 0. Each call is a step of a transaction: an error is one that the database gave.
+//! amount is not 0. Each call is a step of a transaction on the ten tables and a clean disk; an
+//! error is the database's.
 ghost use Rattle.std.specs.Prelude.{refl};
 ghost use Rattle.atl_descriptions.specs.Tables.{Goods, has_table};
 ghost use Rattle.atl_sql.specs.Shown.{has_row};

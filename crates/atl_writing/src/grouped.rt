@@ -1,5 +1,5 @@
 //! Rewrites all rows that a unit or a region has in a table: they are deleted and put again. Each
-//! write is a step of a transaction: an error is one that the database gave.
+//! write is a step of a transaction on the ten tables and a clean disk; an error is the database's.
 ghost use Rattle.std.specs.Prelude.{◌≡◌, ℕ, suc, List, [], ◌∷◌};
 ghost use Rattle.std.specs.Ordering.{nat_cmp};
 ghost use Rattle.std.specs.FinSet.{FinSet};
@@ -66,7 +66,8 @@ pub(crate) trait Grouped: NumberedRow {
             tx.new.conn };
 }
 
-/// The rows are deleted first, also where no unit or region has the number any more.
+/// Deletes the rows of this number, and puts those of the unit or region that has it, if there is
+/// one. `lines` has to make exactly the rows that are wanted (`AreGroups`).
 fn rewrite_group<V: Grouped + Drop, S: Alter>(
     tx: &mut Transaction<'_, S>,
     campaign: &Campaign,

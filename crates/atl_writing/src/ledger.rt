@@ -1,5 +1,5 @@
 //! Writes the books, one row for each entry and thing whose amount is not 0. Each call is a step of
-//! a transaction: an error is one that the database gave.
+//! a transaction on the ten tables and a clean disk; an error is the database's.
 ghost use Rattle.std.specs.Prelude.{◌<◌, ◌≤◌, map};
 ghost use Rattle.std.specs.List.{range_with_len};
 ghost use Rattle.atl_records.specs.Limits.{most_things};
@@ -31,7 +31,7 @@ fn put_booked<S: Alter>(
     put::<StoredBooks, S>(tx, params![entry, thing, amount])
 }
 
-/// Puts no row if the amount is 0.
+/// Puts the amount's row, or no row if the amount is 0. The thing has to be one of the books'.
 fn put_amount<S: Alter>(
     tx: &mut Transaction<'_, S>,
     campaign: &Campaign,
@@ -104,7 +104,7 @@ pub(crate) fn put_all_books<S: Alter>(
     Ok(())
 }
 
-/// Writes the amount only if it is marked.
+/// Writes the amount only if it is marked. The thing has to be one of the books'.
 fn rewrite_amount<S: Alter>(
     tx: &mut Transaction<'_, S>,
     campaign: &Campaign,

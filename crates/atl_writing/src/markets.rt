@@ -1,5 +1,5 @@
 //! Writes the stocks of markets, one row for each region and item whose stock is not 0. Each call
-//! is a step of a transaction: an error is one that the database gave.
+//! is a step of a transaction on the ten tables and a clean disk; an error is the database's.
 ghost use Rattle.std.specs.Prelude.{refl};
 ghost use Rattle.atl_descriptions.specs.Tables.{Markets, market_table};
 ghost use Rattle.atl_sql.specs.Shown.{market_row};

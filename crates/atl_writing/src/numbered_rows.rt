@@ -1,6 +1,6 @@
 //! The six tables whose key is a number, such as `faction`: the rows that a campaign has in them,
-//! and how these are put and deleted. Each write is a step of a transaction: an error is one that
-//! the database gave.
+//! and how these are put and deleted. Each write is a step of a transaction on the ten tables and a
+//! clean disk; an error is the database's.
 ghost use Rattle.std.specs.Prelude.{◌≡◌, ◌↔◌, ℕ, [], ◌∷◌, take};
 ghost use Rattle.std.specs.Ordering.{nat_cmp};
 ghost use Rattle.std.specs.Option.{option_copied};

@@ -1,6 +1,6 @@
 //! Writes the rows of marked numbers, in tables with one row for each number, as of factions or
 //! units: the row is put, or deleted if nothing has the number any more. Each call is a step of a
-//! transaction: an error is one that the database gave.
+//! transaction on the ten tables and a clean disk; an error is the database's.
 ghost use Rattle.atl_descriptions.specs.Tables.{table_of};
 ghost use Rattle.atl_writing.specs.OwnStatements.{OfChange};
 ghost use Rattle.atl_sql.specs.Writes.{Writes};

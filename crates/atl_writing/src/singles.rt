@@ -1,5 +1,5 @@
-//! Writes the marked single amounts of units and regions, row by row, in steps of a transaction: an
-//! error is one that the database gave.
+//! Writes the marked single amounts of units and regions, row by row, in steps of a transaction on
+//! the ten tables and a clean disk; an error is the database's.
 ghost use Rattle.std.specs.Prelude.{◌≡◌, ℕ, Bool};
 ghost use Rattle.std.specs.FinMap.{entries};
 ghost use Rattle.sqlite.specs.Order.{Row as SqlRow};
@@ -49,6 +49,7 @@ pub(crate) trait SingleAmounts: Copy {
             (wanted campaign.now.value))) result tx.old.conn tx.new.conn };
 }
 
+/// Writes the amounts that this owner has of the things `numbers`, whether they are marked or not.
 fn rewrite_amounts_of_owner<A: SingleAmounts, S: Alter>(
     tx: &mut Transaction<'_, S>,
     campaign: &Campaign,

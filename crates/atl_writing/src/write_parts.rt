@@ -1,5 +1,5 @@
 //! Writes the parts of a campaign but the campaign row, each into its table, one after another, in
-//! steps of a transaction: an error is one that the database gave.
+//! steps of a transaction on the ten tables and a clean disk; an error is the database's.
 ghost use Rattle.std.specs.Prelude.{◌≤◌, ◌++◌, List, [], ◌∷◌};
 ghost use Rattle.atl_records.specs.Limits.{most_things};
 ghost use Rattle.atl_descriptions.specs.Tables.{Part, Units, Goods, Books, Markets};

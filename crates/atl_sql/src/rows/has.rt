@@ -1,4 +1,5 @@
-//! The table `has`: the number of each kind of goods, and how all rows of a unit are deleted.
+//! The table `has`: the number of each kind of goods, and how all rows of a unit are deleted. It is
+//! said of databases with the tables of a campaign (`HasTables`) on a clean disk.
 ghost use Rattle.std.specs.Prelude.{◌≡◌, [], ◌∷◌};
 ghost use Rattle.atl_descriptions.specs.Tables.{has_table};
 ghost use Rattle.atl_sql.specs.Shown.{int};

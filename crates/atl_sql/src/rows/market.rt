@@ -1,4 +1,5 @@
-//! The table `market`: how all rows of a region are deleted.
+//! The table `market`: how all rows of a region are deleted. It is said of databases with the
+//! tables of a campaign (`HasTables`) on a clean disk.
 ghost use Rattle.std.specs.Prelude.{[], ◌∷◌};
 ghost use Rattle.atl_descriptions.specs.Tables.{market_table};
 ghost use Rattle.atl_sql.specs.Shown.{int};

@@ -37,7 +37,7 @@ pub trait Stored: Drop + Sized {
         ensures typed { IfOk result (λ read. IfSome read (λ _. IsTyped forms row.now)) }
         ensures other { IfOk result (λ read. read ≡ None → ¬ IsTyped forms row.now) };
 
-    /// The first format that has the table, and the text of the SELECT that shows all its rows.
+    /// The earliest format that has the table, and the text of the SELECT that shows all its rows.
     fn select_of() -> (Format, &'static str)
         ensures since { result.0 ≡ (select_of_part part).since }
         ensures select { result.1.now ≡ (select_of_part part).select };
@@ -130,7 +130,7 @@ pub(crate) fn select<S: Alter>(conn: &mut Connection<S>, sql: &str) -> Result<Ve
     Ok(rows)
 }
 
-/// False if the row can't be parsed or kept.
+/// If true, `all` has one element more, parsed from this row. False if it can't be parsed or kept.
 fn push_row<T: Stored>(alloc: Global, all: &mut Vec<T>, row: &Row) -> bool
     ensures { result ≡ true → AddsRow T.forms T.shown all.old.items row.now all.new.items }
 {
@@ -140,8 +140,8 @@ fn push_row<T: Stored>(alloc: Global, all: &mut Vec<T>, row: &Row) -> bool
     }
 }
 
-/// Each row is parsed as it comes; None if one couldn't be parsed or kept. `sql` has no RETURNING
-/// and doesn't read the time (`IsPlain`).
+/// Each row that the query `sql` shows is parsed as it comes; None if one couldn't be parsed or
+/// kept. `sql` has no RETURNING and doesn't read the time (`IsPlain`).
 fn stream<T: Stored, S: Alter>(
     alloc: Global,
     conn: &mut Connection<S>,

@@ -12,8 +12,8 @@ use atl_descriptions::table::Table as Description;
 use atl_rows::parts::{StoredBooks, StoredFaction, StoredHas, StoredMarket};
 use sqlite_schema::schema::Index;
 
-/// `tree` is that of the index and `table` that of its table. The columns are given by their
-/// indexes in a stored row, where 0 is the rowid.
+/// Whether `found` is just this unique index, all columns ascending by their bytes. `tree` is its
+/// tree, and `table` that of its table. A column goes by its index in a stored row; 0 is the rowid.
 fn is_index(found: &Index, name: &[u8], tree: u32, table: u32, columns: &[usize]) -> bool
     ensures { IsTrue result ↔
         (found.now ≡ record {

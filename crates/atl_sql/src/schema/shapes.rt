@@ -13,14 +13,15 @@ use atl_descriptions::table::Table as Description;
 use sqlite_schema::code::Terms;
 use sqlite_schema::schema::{Column, Stamps, Table};
 
-/// Stamps are the defaults that read the time.
+/// Whether no column has a default that reads the time (a stamp).
 fn is_unstamped(stamps: &Stamps) -> bool
     ensures { IsTrue result ↔ (stamps.now ≡ record { places = []; terms = []; formats = [] }) }
 {
     stamps.places.is_empty() && stamps.terms.roots.is_empty() && stamps.formats.is_empty()
 }
 
-/// `computed` has the columns whose default is no literal, and `is_counted` means AUTOINCREMENT.
+/// Whether the table has no foreign key, no stamps, no column whose default is no literal
+/// (`computed`), and no AUTOINCREMENT (`is_counted`).
 fn has_nothing_more(found: &Table) -> bool
     ensures { IsTrue result ↔
         (found.now ≡ record found.now {
@@ -46,6 +47,7 @@ fn has_check(checks: &Terms, is_single: bool) -> bool
     }
 }
 
+/// Compares all but the columns.
 fn is_described(found: &Table, made: &Description) -> bool
     ensures { IsTrue result ↔
         (found.now ≡ table made.now.tree made.now.name.now found.now.columns made.now.number

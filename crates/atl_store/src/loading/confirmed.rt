@@ -10,9 +10,9 @@ use atl_sql::schema::has_tables_of;
 use atl_world::Format;
 use sqlite::{Alter, Connection};
 
-/// A disk that failed while a read was rolled back has shut the connection, which only the next
-/// statement shows. That statement reads the books: a short table, since the world's items bound
-/// its length.
+/// With Ok the schema begins with the tables of the format, and the connection is open. A disk that
+/// failed as a read was rolled back has shut it, which only a statement shows, so the short table
+/// of the books is read. The fault is Store for another schema, or that of this SELECT's refusal.
 pub(crate) fn confirm<S: Alter>(conn: &mut Connection<S>, format: Format) -> Result<(), LoadFault>
     requires idle { conn.old.in_transaction ≡ false }
     requires settled { IsCommitted (state S.Store conn.old) }

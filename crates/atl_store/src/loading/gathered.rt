@@ -142,7 +142,7 @@ fn rowids_of<T>(alloc: Global, placed: &[RowWithId<T>]) -> Result<Vec<i64>, Allo
     Ok(rowids)
 }
 
-/// `IsSoundDatabase` allows no two rows of a table with the same rowid.
+/// Whether no two of the rows have the same rowid. If two have, the database isn't a sound one.
 fn have_distinct_rowids<T>(alloc: Global, placed: &[RowWithId<T>]) -> Result<bool, AllocError>
     ensures { IfOk result (λ yes. IsTrue yes ↔ (HaveDistinctRowids placed.now)) }
 {
@@ -170,6 +170,7 @@ fn check_apart(are_apart: bool) -> Result<(), LoadFault>
     }
 }
 
+/// The rows without their rowids. The fault is Store if two have the same rowid, or Memory.
 pub(crate) fn rows_after_check<T: Drop>(
     alloc: Global,
     placed: Vec<RowWithId<T>>,

@@ -42,6 +42,7 @@ type SecondFormatRows = Vec<RowWithId<StoredMarket>>;
 /// The rows of all tables but `campaign`, in the order in which the tables are made.
 pub(crate) type OtherRows = (FirstFormatRows, SecondFormatRows);
 
+/// None if a value is of another type than its column. Parts that the format lacks have no rows.
 pub(crate) fn read_others<S: Alter>(
     alloc: Global,
     conn: &mut Connection<S>,

@@ -127,7 +127,8 @@ fn judge_format(
     judge_rows(alloc, rows, format)
 }
 
-/// Whether the row is of the other format is tested before the types of its values.
+/// Reads the one campaign row, which has to keep the first rule, and its world. That the row is of
+/// the other format is tested before the types of its values.
 pub(crate) fn read_own<S: Alter>(
     alloc: Global,
     conn: &mut Connection<S>,

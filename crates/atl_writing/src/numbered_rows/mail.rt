@@ -1,4 +1,5 @@
-//! The mailings of a campaign as rows of `mail`. An error is one that the database gave.
+//! The mailings of a campaign as rows of `mail`. Each write is a step of a transaction on the ten
+//! tables and a clean disk; an error is the database's.
 ghost use Rattle.std.specs.Prelude.{refl};
 ghost use Rattle.atl_descriptions.specs.Tables.{Mail, mail_table};
 ghost use Rattle.atl_sql.specs.Shown.{mail_row};
