@@ -1,5 +1,5 @@
--- What holds of all mailings that are read: a faction in range, ascending line numbers, and orders with operands of the
--- verb's shape, which says of which kind they are, numbers in range, names by their rule, and things of the world.
+-- What holds of all mailings that are read: a faction in range, strictly ascending line numbers, and orders in bounds.
+-- The operands of an order are what the words after its verb name. The verb's shape says of which kind they are.
 use Rattle.std.specs.Prelude.{◌≡◌, ◌≤◌, ◌<◌, ℕ, true, List, [], ◌∷◌, length, Some, None, Ok}
 use Rattle.std.specs.List.{All}
 use Rattle.atl_words.specs.Limits.{most_number, last_alias, last_faction}
@@ -83,7 +83,7 @@ abbrev pub LinesRise : ℕ → List EntryValue → Type 0
 LinesRise n [] = Unit {0}
 LinesRise n (e ∷ es) = (n < e.line) × LinesRise e.line es
 
--- A mailing as read is in bounds: its faction is from 1 to 9,999, and each order has operands of its verb's shape, in
+-- A mailing as read is in bounds: its faction is from 1 to 9,999, and each order and the unit that it is for are in
 -- bounds (`IsEntry`). The line numbers of the orders are above 0 and strictly ascending.
 pub record IsReading (world : WorldValue) (r : Reading) : Type 0 where
   pub faction : IsWithin last_faction r.faction

@@ -21,7 +21,7 @@ module _ {A : Type 0} (title : A → List ℕ) where
       ∷ []
 
   -- the conditions that no two elements of the array at a path (the first text) have the same name, which is under a
-  -- key (the second text), ignoring ASCII case
+  -- key (the second text), ignoring ASCII case; else TwoNames
   abbrev pub no_duplicates : List ℕ → List ℕ → List A → Conditions
   no_duplicates array key all = conditions_on_each (no_duplicate_before array key all) 0 all
 

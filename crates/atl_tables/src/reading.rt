@@ -1,5 +1,5 @@
-//! Reads a world file. A call that may return a fault may also return `Memory`. See
-//! docs/FORMATS.md, "The world file".
+//! Reads a world file. A call that may return a fault may also return `Memory`. `document` is the
+//! file, and `all` has all its tables as read. See docs/FORMATS.md, "The world file".
 ghost use Rattle.std.specs.Prelude.{◌≡◌, ◌≤◌, ◌<◌, ◌++◌, length, IfOk};
 ghost use Rattle.std.specs.List.{All};
 ghost use Rattle.toml.specs.View.{table_view};
@@ -174,6 +174,7 @@ fn land_numbers(
     Ok(numbers)
 }
 
+/// The world of its parts, else NoLand. With some land the parts have to be a world (`IsWorld`).
 fn world_with_land(
     alloc: Global,
     rules: Rules,

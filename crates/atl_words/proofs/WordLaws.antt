@@ -91,7 +91,7 @@ pub words-bare_line : (line : List ℕ) → 0 < length line → ends_word (get_o
 words-bare_line [] p h = absurd (omega arith)
 words-bare_line (b ∷ bs) p h = words-bare b bs h
 
--- what follows the first byte of bs, a quote; where bs are empty there is none (`closing` is 0), and nothing follows
+-- what is left of bs after `closing` bytes is bs without its first byte, if `closing` is 1, or 0 where bs are empty
 pub after_closing : (bs : List ℕ) (closing : ℕ) → closing ≡ min (length bs) 1
     → take (length bs - closing) (drop closing bs) ≡ drop 1 bs
 after_closing bs closing e = take_rest bs closing ∙ ap (λ n. drop n bs) (e ∙ min_comm (length bs) 1) ∙ drop_min 1 bs
@@ -153,7 +153,7 @@ ends_at_further text end line rest a e = record {
   end_is = ap length (append_assoc a.front e.front rest ∙ ap (λ l. a.front ++ l) (sym e.whole)) ∙ a.end_is;
 }
 
--- the bytes of a word are those of the text from `to_end` bytes before the line's end on
+-- the bytes of a word are those of the text from index `end` - `to_end` on, as many as the word has
 pub bytes_in_span : (text : List ℕ) (end : ℕ) (line bytes : List ℕ) (to_end : ℕ) → EndsAt text end line
     → IsPartOf line bytes to_end → slice_range text (end - to_end) (end - to_end + length bytes) ≡ bytes
 bytes_in_span text end line bytes to_end a s =

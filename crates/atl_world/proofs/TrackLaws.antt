@@ -178,7 +178,8 @@ module _ {V : Type 0} where
   insert_is_undone c n x false fresh h =
       same_parts _ _ _ _ (remove_undoes_insert c.values n x fresh) (insert_undone c.marks n h)
 
-  -- a value put in under a number without one, and taken out again, leaves the values and the marks as they were
+  -- After x is put in under n, which had no value, `without_new_value` gives c back, values and marks, if its flag says
+  -- whether n was marked before.
   pub taken_out-undone : (c : MarkedMapValue V) (n : ℕ) (x : V) → get c.values n ≡ None
       → without_new_value (with_value c n x) n (set.contains c.marks n) ≡ c
   taken_out-undone c n x fresh = insert_is_undone c n x (set.contains c.marks n) fresh refl

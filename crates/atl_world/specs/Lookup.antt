@@ -5,13 +5,11 @@ use Rattle.std.specs.Str.{str_eq_ignore_ascii_case}
 use Rattle.atl_world.specs.Letters.{space, underscore}
 use Rattle.atl_world.specs.Worlds.{WorldValue}
 
--- the byte of a name that a byte of a word means: the byte itself, but a space for `_` in a word without quotes (the
--- flag `quoted` is false)
+-- the byte of a name that a byte of a word means: the byte itself, but a space for `_` in a word without quotes
 abbrev pub letter_of : Bool → ℕ → ℕ
 letter_of quoted b = if quoted then b else if b == underscore then space else b
 
--- the name that a word means: its bytes, with a space for each `_` in a word without quotes (the flag `quoted` is
--- false)
+-- the name that a word means: its bytes, with a space for each `_` in a word without quotes
 abbrev pub name_of : List ℕ → Bool → List ℕ
 name_of word quoted = map (letter_of quoted) word
 

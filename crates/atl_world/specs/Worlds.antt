@@ -76,7 +76,7 @@ neighbour_to West p = p.west
 
 -- ---- what is true of every world: numbers are in their ranges, and the number of a thing is below how many there are
 
--- the numbers of the rules r are in their ranges, and the skills that r refers to are among `skills` skills
+-- the numbers of the rules r are in their ranges, and the skills that r refers to, if any, are among `skills` skills
 pub record AreRules (skills : ℕ) (r : Rules) : Type 0 where
   pub maintenance_least : 1 ≤ r.maintenance
   pub maintenance : r.maintenance ≤ most_per_head
@@ -126,7 +126,7 @@ pub record IsSkill (s : Skill) : Type 0 where
   pub fee : s.fee ≤ most_price
 
 -- The name of the kind k keeps the rule of names, and its numbers are in their ranges. Its material is one of `items`
--- items, and its skills are among `skills` skills.
+-- items. Its skill, and the skill that it helps, if any, are among `skills` skills.
 pub record IsKind (items skills : ℕ) (k : Kind) : Type 0 where
   pub name : name_ok k.name ≡ true
   pub material : k.material < items
