@@ -102,8 +102,8 @@ titles_differ all =
     ++ (no_duplicates (λ s. s.name) (codes "skill") (codes "name") all.skills
     ++ no_duplicates (λ d. d.name) (codes "kind") (codes "name") all.kinds))
 
--- the conditions that names (`titles_differ`), region numbers, output keys of a terrain and market items of a region
--- are unique, ignoring ASCII case; else TwoNames
+-- the conditions that names of terrains, of items, of skills and of kinds, region numbers, output keys of a terrain and
+-- market items of a region are unique, ignoring ASCII case; else TwoNames
 unfoldable pub names_differ : WorldDraft → Conditions
 names_differ all =
     titles_differ all

@@ -1,5 +1,5 @@
 //! Reads a world file. A call that may return a fault may also return `Memory`. `document` is the
-//! file, and `all` has all its tables as read. See docs/FORMATS.md, "The world file".
+//! file, and `all` has its tables as read, in their ranges. See docs/FORMATS.md, "The world file".
 ghost use Rattle.std.specs.Prelude.{◌≡◌, ◌≤◌, ◌<◌, ◌++◌, length, IfOk};
 ghost use Rattle.std.specs.List.{All};
 ghost use Rattle.toml.specs.View.{table_view};

@@ -1,6 +1,6 @@
 //! Reads the tables `[[region]]` and looks up the terrains and items that they name. A call that
 //! may return a fault may also return `Memory`. `at` is the path of the table, and i its index.
-//! See docs/FORMATS.md, "The world file".
+//! There are at most 2^16 terrains. See docs/FORMATS.md, "The world file".
 ghost use Rattle.std.specs.Prelude.{◌≡◌, ◌≤◌, ◌<◌, IfOk, codes, length, map, unwrap_or};
 ghost use Rattle.toml.specs.View.{table_view};
 ghost use Rattle.atl_tables.specs.Drafts.{AreRegionBasics, IsOldRegion, IsRegionDraft};

@@ -84,7 +84,8 @@ words-bare b bs h =
     cond-false (is_blank b) _ _ two.0 ∙ cond-false (eqb b semicolon) _ _ one.1 ∙ cond-false (is_quote b) _ _ two.1
     ∙ ap (λ ws. record { bytes = before_first ends_word (b ∷ bs); quoted = false } ∷ ws) (words_after-drop (position_or_len ends_word (b ∷ bs) - 1) bs ∙ ap words (drop-bare (ends_word b) _ b bs h))
 
--- the words of a line, not empty, whose first byte doesn't end words: one without quotes, and those of the rest
+-- A line that isn't empty, and whose first byte doesn't end words, has a first word without quotes, and then the words
+-- of the rest. This word has the bytes up to the first that ends words, or to the line's end.
 pub words-bare_line : (line : List ℕ) → 0 < length line → ends_word (get_or line 0 0) ≡ false
     → words line
     ≡ record { bytes = before_first ends_word line; quoted = false } ∷ words (drop (position_or_len ends_word line) line)
@@ -99,7 +100,7 @@ after_closing bs closing e = take_rest bs closing ∙ ap (λ n. drop n bs) (e �
 digit_value_of : (b : ℕ) → is_ascii_digit b ≡ true → digit_value b ≡ b - 48
 digit_value_of b h = grind (arith, nat_tests)
 
--- a further digit makes the number that is written ten times as large, and adds the digit, its byte less 48
+-- if the byte at i is a digit, the number up to it is ten times that of the bytes before i, plus this byte less 48
 pub one_digit_more : (bytes : List ℕ) (i : ℕ) → i < length bytes → is_ascii_digit (get_or bytes i 0) ≡ true
     → digits_value 10 (take (i + 1) bytes) ≡ digits_value 10 (take i bytes) * 10 + (get_or bytes i 0 - 48)
 one_digit_more bytes i h digit =

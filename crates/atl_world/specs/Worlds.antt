@@ -174,9 +174,9 @@ pub record HasMutualNeighbours (regions : FinMap nat_cmp RegionPlan) (number : �
   pub east : LeadsBack regions (λ q. q.west) number e
   pub west : LeadsBack regions (λ q. q.east) number w
 
--- What is true of every world: parts in their ranges, mutual neighbours, and some region of land. No two terrains, no
--- two items, no two skills and no two kinds have one name (`NamesDiffer`). Of these and of regions there are at most as
--- many as the limits say.
+-- What is true of every world: numbers in their ranges, references to things that it has, mutual neighbours, and some
+-- region of land. No two terrains, no two items, no two skills and no two kinds have one name, ignoring ASCII case. Of
+-- these and of regions there are at most as many as the limits say.
 pub record IsWorld (w : WorldValue) : Type 0 where
   pub rules : AreRules (length w.skills) w.rules
   pub terrains : (i : ℕ) (t : Terrain) → slice_get w.terrains i ≡ Some t → IsTerrain (length w.items) t
