@@ -26,7 +26,7 @@ IsNumber n = IsWithin most_number n
 abbrev pub IsAlias : ℕ → Type 0
 IsAlias alias = IsWithin last_alias alias
 
--- a reference to a unit has a number or an alias in its range
+-- a reference to a unit is a number from 1 to 999,999,999, or an alias from 1 to 9,999
 abbrev pub IsUnitRef : UnitRef → Type 0
 IsUnitRef (Number n) = IsNumber n
 IsUnitRef (Alias alias) = IsAlias alias

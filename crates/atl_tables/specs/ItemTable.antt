@@ -32,8 +32,8 @@ item_at = do
   making ← as_one_condition making_at
   value_only (record { name = name; weight = weight; carry = carry; making = making })
 
--- The conditions on the keys of the table `[[item]]` at a path. Each has its type, and keeps its range or the rule of
--- names; none but `skill`, `level`, `raw` and `raw_count` may be missing.
+-- The conditions on the keys of the table `[[item]]` at a path. Each has its type, numbers are in their ranges, and
+-- `name` keeps the rule of names; none but `skill`, `level`, `raw` and `raw_count` may be missing.
 abbrev pub item_keys : List ℕ → Members → Conditions
 item_keys = conditions_of item_at
 

@@ -41,8 +41,8 @@ kind_at = do
   purpose ← as_one_condition purpose_at
   value_only (record { name = name; ship = ship; building = building; purpose = purpose })
 
--- The conditions on the keys of the table `[[kind]]` at a path. Each has its type, and keeps its range or the rule of
--- names; none but `capacity`, `crew` and `helps` may be missing.
+-- The conditions on the keys of the table `[[kind]]` at a path. Each has its type, numbers are in their ranges, and
+-- `name` keeps the rule of names; none but `capacity`, `crew` and `helps` may be missing.
 abbrev pub kind_keys : List ℕ → Members → Conditions
 kind_keys = conditions_of kind_at
 

@@ -130,7 +130,7 @@ abbrev pub is_some_land : List ℕ → Conditions
 is_some_land [] = Some NoLand ∷ []
 is_some_land (n ∷ ns) = None ∷ []
 
--- the conditions on tables beyond their keys: unique names and region numbers, known names, mutual neighbours, land
+-- the conditions on tables beyond keys: unique names and region numbers, known names, mutual neighbours, some land
 abbrev pub table_conditions : WorldDraft → Conditions
 table_conditions all =
     names_differ all

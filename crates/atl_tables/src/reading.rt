@@ -199,6 +199,7 @@ fn world_with_land(
     Ok(World::from_parts(rules, terrains, items, skills, kinds, regions, land))
 }
 
+/// `parts` has the names of `all` looked up. They differ where they must (`ThingNamesDiffer`).
 #[tactic(auto, unfolding(crate::specs::World::neighbours_are_mutual))]
 fn make_world(alloc: Global, all: WorldDraft, parts: WorldParts) -> Result<World, WorldFault>
     requires all { IsWorldDraft all }

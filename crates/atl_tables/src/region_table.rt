@@ -117,7 +117,6 @@ fn read_sides(alloc: Global, at: &str, table: &Table) -> Result<Sides, WorldFaul
     })
 }
 
-/// Reads a table `[[region]]` by the first format: all its keys but `market`.
 impl FromTable for OldRegion {
     ghost conditions = { old_region_keys };
 
@@ -133,7 +132,6 @@ impl FromTable for OldRegion {
     }
 }
 
-/// Reads a table `[[region]]` by the second format: all its keys, and the tables of its markets.
 impl FromTable for RegionDraft {
     ghost conditions = { region_keys };
 

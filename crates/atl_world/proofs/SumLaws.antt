@@ -133,7 +133,7 @@ module _ {X : Type 0} where
         | Greater ↦ λ g. chosen-cons p e (put nat_cmp k v es) ∙ ap (λ ns. cond (p e.1) (e.0 ∷ ns) ns) (chosen-put_other p k v h es g) ∙ sym (chosen-cons p e es)
       ] g
 
-  -- replacing u by v leaves the numbers whose values pass the test p, if v passes exactly where u does
+  -- replacing u, the value under k, by v leaves the numbers whose values pass the test p, if both pass it or both fail
   pub numbers_where-insert_known : (p : X → Bool) (m : FinMap nat_cmp X) (k : ℕ) (u v : X) → get m k ≡ Some u
       → p u ≡ p v → numbers_where p (insert m k v) ≡ numbers_where p m
   numbers_where-insert_known p m k u v h same =

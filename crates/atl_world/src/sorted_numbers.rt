@@ -147,6 +147,7 @@ impl SortedNumbers {
     }
 }
 
+/// Ok with the index of a number that the list has, else Err with the index where it belongs.
 fn index_of(numbers: &[u32], number: u32) -> Result<usize, usize>
     requires { IsStrictlySortedBy nat_cmp numbers.now }
     ensures found { IfOk result (λ index. IsAt numbers.now number index) }
