@@ -32,7 +32,7 @@ IsUnitRef (Number n) = IsNumber n
 IsUnitRef (Alias alias) = IsAlias alias
 
 -- the operands of an order are in bounds: numbers and aliases in range, in a list one unit or more, names by the rule,
--- and things that the world has; a flag, a direction, no operand and no kind always are
+-- and items, skills and kinds that the world has; a flag, a direction, no operand and no kind always are
 abbrev pub AreOperandsOf : WorldValue → OperandsValue → Type 0
 AreOperandsOf world operands.Nothing = Unit {0}
 AreOperandsOf world (operands.Alias alias) = IsAlias alias
@@ -67,8 +67,8 @@ shape_of (operands.Kind kind) = shapes.Kind
 shape_of (operands.Skill skill) = shapes.Skill
 shape_of (operands.Item item) = shapes.Item
 
--- an order says what it is: its operands have the shape that the order table gives its verb, and are in bounds, with
--- things that the world has (`AreOperandsOf`)
+-- an order says what it is: its operands have the shape that the order table gives its verb, and are in bounds for the
+-- world (`AreOperandsOf`)
 pub record IsOrderOf (world : WorldValue) (order_value : OrderValue) : Type 0 where
   pub shape : shape_of order_value.operands ≡ (row_of order_value.verb).shape
   pub operands : AreOperandsOf world order_value.operands

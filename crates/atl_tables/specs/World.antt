@@ -59,7 +59,7 @@ tables_of format doc = record {
 unfoldable pub regions_of : WorldDraft → FinMap nat_cmp RegionPlan
 regions_of all = by_number (λ p. p.number) (map (region_of all) all.regions)
 
--- the world that the tables describe, with the numbers of things in place of their names, 0 or None for unknown names
+-- the world that the tables describe, with numbers in place of names by which they refer, 0 or None for unknown ones
 unfoldable pub world_of_tables : WorldDraft → WorldValue
 world_of_tables all = record {
   rules = rules_of all;

@@ -174,7 +174,7 @@ fn land_numbers(
     Ok(numbers)
 }
 
-/// The world of its parts, else NoLand. With some land the parts have to be a world (`IsWorld`).
+/// The world that has all this, which must be one (`IsWorld`) if some region is land; else NoLand.
 fn world_with_land(
     alloc: Global,
     rules: Rules,

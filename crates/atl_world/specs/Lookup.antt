@@ -13,8 +13,8 @@ letter_of quoted b = if quoted then b else if b == underscore then space else b
 abbrev pub name_of : List ℕ → Bool → List ℕ
 name_of word quoted = map (letter_of quoted) word
 
--- the index of the first item, skill or kind of a list whose title is the name that a word means (`name_of`), ignoring
--- ASCII case; None if there is none
+-- the index of the first item, skill or kind of a list whose name, which `title` gives, is the name that a word means
+-- (`name_of`), ignoring ASCII case; None if there is none
 abbrev pub index_named : {A : Type 0} → (A → List ℕ) → List A → List ℕ → Bool → Option ℕ
 index_named title things word quoted = position (λ thing. str_eq_ignore_ascii_case (title thing) (name_of word quoted)) things
 

@@ -33,12 +33,12 @@ pub record WorldValue : Type 0 where
   pub kinds : List Kind
   pub regions : FinMap nat_cmp RegionPlan
 
--- the world made of its parts: rules, terrains, items, skills, kinds and regions
+-- the world that has these rules, terrains, items, skills, kinds and regions
 abbrev pub world_of_parts : Rules → List Terrain → List Item → List Skill → List Kind → FinMap nat_cmp RegionPlan → WorldValue
 world_of_parts rules terrains items skills kinds regions =
     record { rules = rules; terrains = terrains; items = items; skills = skills; kinds = kinds; regions = regions }
 
--- for proofs alone: a world encoded as nested pairs of its parts, as the kit asks of a type that contracts see
+-- for proofs alone: a world encoded as nested pairs of what it has, as the kit asks of a type that contracts see
 abbrev pub world_code : Coded WorldValue
 world_code =
     code_by (Rules × (List Terrain × (List Item × (List Skill × (List Kind × FinMap nat_cmp RegionPlan)))))
