@@ -174,7 +174,7 @@ pub record HasMutualNeighbours (regions : FinMap nat_cmp RegionPlan) (number : �
   pub east : LeadsBack regions (λ q. q.west) number e
   pub west : LeadsBack regions (λ q. q.east) number w
 
--- What is true of every world: numbers in their ranges, references to things that it has, mutual neighbours, and some
+-- What is true of every world: numbers in their ranges, references only to what it has, mutual neighbours, and some
 -- region of land. No two terrains, no two items, no two skills and no two kinds have one name, ignoring ASCII case. Of
 -- these and of regions there are at most as many as the limits say.
 pub record IsWorld (w : WorldValue) : Type 0 where
