@@ -1,5 +1,5 @@
 -- What each order says: its verb, and its operands, which the words after it name. Words after these are ignored. The
--- shape of a verb says which operands it takes. See docs/RULES.md, "Orders".
+-- shape of a verb says which operands it takes. A missing word is the fault MissingWord. See docs/RULES.md, "Orders".
 use Rattle.std.specs.Prelude.{ℕ, List, [], ◌∷◌, codes, Option, Some, None, Result, Ok, Err, ◌==◌, if◌then◌else◌}
 use Rattle.std.specs.List.{slice_range}
 use Rattle.atl_world.specs.Names.{name_ok}

@@ -92,8 +92,8 @@ block_step parent given (Ok n) =
     else step (says (Number parent) (form_value n.0)) (Forming parent n.0) (with_alias given n.0)
 block_step parent given (Err fault) = step (faulty fault) (Skipping (Some parent)) given
 
--- The step of a FORM line: `block_step` for the named unit. If no unit is named, the fault is NoUnit, and a skipped
--- block opens. Inside a block the fault is NestedForm, and the open block stays.
+-- The step of a FORM line. For the unit named outside of blocks, a block opens (`block_step`). If no unit is named, the
+-- fault is NoUnit, and a skipped block opens. Inside a block the fault is NestedForm, and the open block stays.
 abbrev pub form_step : ReaderState → (ℕ → Bool) → List WordText → LineStep
 form_step Nowhere given ws = step (faulty NoUnit) (Skipping None) given
 form_step (At n) given ws = block_step n given (alias_at ws)
@@ -126,7 +126,7 @@ abbrev pub words_step : WorldValue → ReaderState → (ℕ → Bool) → List W
 words_step world state given [] = step nothing state given
 words_step world state given (w ∷ ws) = keyword_step world state given (keyword_of w) ws
 
--- the step of one line: `words_step` of its words; if a byte may not be in a line, BadByte, and state and aliases stay
+-- the step of one line: if a byte may not be in a line, BadByte, and state and aliases stay; else that of its words
 unfoldable pub line_step : WorldValue → ReaderState → (ℕ → Bool) → List ℕ → LineStep
 line_step world state given line =
     if list_all is_plain line then words_step world state given (words line)

@@ -1,4 +1,4 @@
-//! Reads the next words of a line as a number, a unit or a thing, or gives their first fault.
+//! Reads the next words of a line as a number, a unit, a direction, an item, a skill or a kind.
 //! See docs/RULES.md, "Orders" and "Names in orders". MissingWord comes where the line has no such
 //! word, else the fault of a word that isn't as said. Of a unit, BadAlias is for that after NEW.
 ghost use Rattle.std.specs.Prelude.{◌≡◌, ◌≤◌, IfOk};

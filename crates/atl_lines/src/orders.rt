@@ -1,5 +1,5 @@
-//! Reads the words after a verb as the order table says, or gives their first fault.
-//! See docs/RULES.md, "Orders".
+//! Reads the words after a verb as the order table says, or gives their first fault. `cursor` is at
+//! these words (`IsCursor`). See docs/RULES.md, "Orders".
 ghost use Rattle.std.specs.Prelude.{◌≡◌, IfOk};
 ghost use Rattle.atl_words.specs.Words.{words};
 ghost use Rattle.atl_lines.specs.Views.{Agrees};
@@ -134,8 +134,8 @@ fn read_operands(
     }
 }
 
-/// The order that a verb and the words after it give, or the first fault of these words. `cursor`
-/// is at these words (`IsCursor`). After AllocError nothing is known of them.
+/// The order that a verb and the words after it give, or the first fault of these words. After
+/// AllocError nothing is known of them.
 #[tactic(auto, unfolding(crate::specs::Orders::read_order))]
 pub fn order_at(
     alloc: Global,

@@ -1,4 +1,5 @@
-//! Reads one line of a mailing. See docs/RULES.md, "Reading a mailing".
+//! Reads one line of a mailing. `state` is the reader's state before the line, and `cursor` is at
+//! the words after its keyword. See docs/RULES.md, "Reading a mailing".
 ghost use Rattle.std.specs.Prelude.{◌≡◌, ℕ, List, IfOk};
 ghost use Rattle.std.specs.List.{list_all};
 ghost use Rattle.atl_lines.specs.Views.{alias_set, effect_of, step_of};

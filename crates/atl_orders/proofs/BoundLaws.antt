@@ -1,6 +1,6 @@
--- Every mailing that is read is in bounds: numbers in range, names by their rule, things of the world, and line numbers
--- strictly ascending. `state` is the reader's state before a line, and r the result of a step of reading. A law
--- `.._sound` says that what a step gives is in bounds.
+-- Every mailing that is read is in bounds: numbers in range, names by their rule, items, skills and kinds of the world,
+-- and line numbers strictly ascending. `state` is the reader's state before a line, and r the result of a step of
+-- reading. A law `.._sound` says that what a step gives is in bounds.
 use Rattle.std.proofs.Common.{◌≡◌, ℕ, ◌+◌, ◌<◌, Bool, List, [], ◌∷◌, ◌++◌, length, codes, Option, Some, None, Result, Ok, Err, nat_lt, refl, subst, arith}
 use Rattle.std.specs.List.{All, list_all, flat_map}
 use Rattle.std.proofs.lemmas.Bool.{cond_both}

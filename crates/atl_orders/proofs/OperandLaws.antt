@@ -1,6 +1,6 @@
--- Every order that is read says what it is: its operands have the shape of its verb, which says of which kind they are,
--- numbers in range, names by the rule, and things of the world. ws are the words to read, and w is one word. `most` is
--- the largest number allowed, `fault` the fault of any other, and o a number as read, or None.
+-- Every order that is read has operands (what the words after its verb name) of its verb's shape, which says of which
+-- kind they are, with numbers in range, names by the rule, and items, skills and kinds of the world. ws are the words
+-- to read, w is one word, `most` the largest number allowed, `fault` the fault of any other, o a number read, or None.
 use Rattle.std.proofs.Common.{◌≡◌, ℕ, ◌<◌, ◌≤◌, Bool, List, [], ◌∷◌, length, codes, Option, Some, None, Result, Ok, Err, refl, arith}
 use Rattle.std.specs.List.{All}
 use Rattle.std.specs.Str.{str_eq_ignore_ascii_case}

@@ -1,5 +1,5 @@
--- What holds of all mailings that are read: a faction in range, ascending line numbers, and orders with operands of the
--- verb's shape, which says of which kind they are, numbers in range, names by their rule, and things of the world.
+-- What holds of all mailings that are read: a faction in range, strictly ascending line numbers, and orders in bounds.
+-- The operands of an order are what the words after its verb name. The verb's shape says of which kind they are.
 use Rattle.std.specs.Prelude.{◌≡◌, ◌≤◌, ◌<◌, ℕ, true, List, [], ◌∷◌, length, Some, None, Ok}
 use Rattle.std.specs.List.{All}
 use Rattle.atl_words.specs.Limits.{most_number, last_alias, last_faction}
@@ -26,13 +26,13 @@ IsNumber n = IsWithin most_number n
 abbrev pub IsAlias : ℕ → Type 0
 IsAlias alias = IsWithin last_alias alias
 
--- a reference to a unit has a number or an alias in its range
+-- a reference to a unit is a number from 1 to 999,999,999, or an alias from 1 to 9,999
 abbrev pub IsUnitRef : UnitRef → Type 0
 IsUnitRef (Number n) = IsNumber n
 IsUnitRef (Alias alias) = IsAlias alias
 
 -- the operands of an order are in bounds: numbers and aliases in range, in a list one unit or more, names by the rule,
--- and things that the world has; a flag, a direction, no operand and no kind always are
+-- and items, skills and kinds that the world has; a flag, a direction, no operand and no kind always are
 abbrev pub AreOperandsOf : WorldValue → OperandsValue → Type 0
 AreOperandsOf world operands.Nothing = Unit {0}
 AreOperandsOf world (operands.Alias alias) = IsAlias alias
@@ -67,8 +67,8 @@ shape_of (operands.Kind kind) = shapes.Kind
 shape_of (operands.Skill skill) = shapes.Skill
 shape_of (operands.Item item) = shapes.Item
 
--- an order says what it is: its operands have the shape that the order table gives its verb, and are in bounds, with
--- things that the world has (`AreOperandsOf`)
+-- an order says what it is: its operands have the shape that the order table gives its verb, and are in bounds for the
+-- world (`AreOperandsOf`)
 pub record IsOrderOf (world : WorldValue) (order_value : OrderValue) : Type 0 where
   pub shape : shape_of order_value.operands ≡ (row_of order_value.verb).shape
   pub operands : AreOperandsOf world order_value.operands
@@ -83,7 +83,7 @@ abbrev pub LinesRise : ℕ → List EntryValue → Type 0
 LinesRise n [] = Unit {0}
 LinesRise n (e ∷ es) = (n < e.line) × LinesRise e.line es
 
--- A mailing as read is in bounds: its faction is from 1 to 9,999, and each order has operands of its verb's shape, in
+-- A mailing as read is in bounds: its faction is from 1 to 9,999, and each order and the unit that it is for are in
 -- bounds (`IsEntry`). The line numbers of the orders are above 0 and strictly ascending.
 pub record IsReading (world : WorldValue) (r : Reading) : Type 0 where
   pub faction : IsWithin last_faction r.faction

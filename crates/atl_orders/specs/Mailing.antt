@@ -35,13 +35,13 @@ effects world n state given (line ∷ rest) =
     else (n, (line_step world state given line).effect)
     ∷ effects world (n + 1) (line_step world state given line).state (line_step world state given line).given rest
 
--- the order that a line's effect gives, as a list of one entry, or of none if it gives no order
+-- the order that line n gives by its effect, with line and unit, as a list of one; the empty list if it gives no order
 abbrev pub entry_of : ℕ × Effect → List EntryValue
 entry_of (n, nothing) = []
 entry_of (n, faulty fault) = []
 entry_of (n, says unit order_value) = record { line = n; target = unit; order_value = order_value } ∷ []
 
--- the fault of a line's effect, as a list of one faulty line, or of none if there is no fault
+-- the fault that line n has by its effect, as a list of one faulty line; the empty list if it has no fault
 abbrev pub fault_of : ℕ × Effect → List FaultyLine
 fault_of (n, nothing) = []
 fault_of (n, faulty fault) = record { line = n; fault = fault } ∷ []
@@ -71,7 +71,7 @@ reading world text =
 
 -- ---- what the code returns
 
--- an entry that the code returned, with the name in its order as bytes in place of a span of the text
+-- an order with its line and unit, as the code returned it, with its name as bytes in place of a span of the text
 abbrev pub entry_value : List ℕ → Entry → EntryValue
 entry_value text e = record { line = e.line; target = e.target; order_value = order_value text e.order }
 

@@ -110,7 +110,7 @@ pub data BodySays (world : WorldValue) : ℕ → ReaderState → (ℕ → Bool) 
   -- a line that begins with `#END`: no orders and no faulty lines, from this line on
   orders_ended : (n : ℕ) (state : ReaderState) (given : ℕ → Bool) (line : List ℕ) (rest : List (List ℕ))
       → begins (codes "#END") (words line) ≡ true → BodySays world n state given (line ∷ rest) [] []
-  -- any other line: its order or its fault, and then those of the lines after it
+  -- any other line: its order or its fault, if it has one, and then those of the lines after it
   one_line : (n : ℕ) (state : ReaderState) (given : ℕ → Bool) (line : List ℕ) (rest : List (List ℕ))
       → begins (codes "#END") (words line) ≡ false
       → (s : LineStep) → LineSays world state given line s

@@ -83,7 +83,7 @@ impl Mailing {
         Ok(Sequence::from_vec(letters))
     }
 
-    /// After AllocError the mailing is not to be used.
+    /// Adds the order or fault that a line gives. After AllocError the mailing is not to be used.
     fn note(&mut self, line: u32, outcome: LineResult) -> Result<(), AllocError>
         ensures text { OnOk result (self.new.text ≡ self.old.text) }
         ensures lines { OnOk result (reading_of self.new

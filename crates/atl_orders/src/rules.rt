@@ -12,9 +12,9 @@ pub fn rules_are_the_reading()
 {}
 
 /// A law: every mailing that is read has a faction in range, its orders have strictly ascending
-/// line numbers, and each order has the operands that the order table gives its verb, numbers in
-/// their ranges, names that keep the rule of names, and things of the world. The call does nothing.
-/// See docs/RULES.md, "Orders".
+/// line numbers, and each order has operands of the shape that the order table gives its verb, with
+/// numbers in their ranges, names by the rule of names, and items, skills and kinds of the world.
+/// The call does nothing. See docs/RULES.md, "Orders".
 pub fn readings_keep_bounds()
     ensures { ReadingsKeepBounds }
 {}

@@ -108,7 +108,7 @@ thing_names_differ_by_titles all h =
     }
 
 -- no two terrains, no two items, no two skills and no two kinds have the same name, ignoring ASCII case
--- (`ThingNamesDiffer`), if all conditions on names and numbers hold (`names_differ`)
+-- (`ThingNamesDiffer`), if no condition that a name or a number is unique is broken (`names_differ`)
 pub thing_names_differ : (all : WorldDraft) → first_fault (names_differ all) ≡ None → ThingNamesDiffer all
 unfolding names_differ
 thing_names_differ all h =

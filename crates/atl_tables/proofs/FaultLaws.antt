@@ -46,6 +46,7 @@ pub result_by_second_list_is_by_joined : {X Y : Type 0} (view : X → Y) (r : Re
 result_by_second_list_is_by_joined view (Ok x) fs gs v h g = (fault_is_of_second_list fs gs h ∙ g.0, g.1)
 result_by_second_list_is_by_joined view (Err e) fs gs v h g = error_of_second_list_is_of_joined e fs gs h g
 
+-- what a call may return by `fault` and v (`Gives`), it may return if the definition gives `fault`, or v if it is None
 pub gives_implies_reads : {X Y : Type 0} (view : X → Y) (r : Result X WorldFault) (fault : Option WorldFault) (v : Y)
     → Gives view r fault v → Reads view r (fault_or_value fault v)
 gives_implies_reads view (Ok x) fault v h = rw (h.0, h.1) refl

@@ -1,4 +1,4 @@
--- Laws of the map of values by their own numbers: how many entries it has, and what holds of each. `vs` is the list of
+-- Laws of the map of values by their own numbers: how many values it has, and what holds of each. `vs` is the list of
 -- the values; of those with the same number the map has the first.
 use Rattle.std.proofs.Common.{◌≡◌, ◌≤◌, ℕ, zero, suc, ◌==◌, Bool, true, false, cond, List, [], ◌∷◌, length, Option, Some, refl, subst, sym, ap, ◌∙◌, arith}
 use Rattle.std.specs.Cmp.{nat_cmp_total, unsigned_tied}

@@ -1,4 +1,4 @@
--- Laws of a terrain's table `output`: its entries in byte order of the keys, and their amounts one after another.
+-- Laws of a terrain's table `output`: its entries, keys with values, by byte order of the keys, and their amounts.
 -- `front` has what the entries so far give, and `total` is the first fault of all entries, or what all of them give.
 use Rattle.std.proofs.Common.{◌≡◌, ℕ, true, List, [], ◌∷◌, ◌++◌, map, Option, Result, Ok, String, Global, refl, sym, ap, ◌∙◌, append_assoc, string_bytes}
 use Rattle.std.specs.Map.{keys_of}

@@ -41,7 +41,7 @@ module _ {A Z : Type 0} (title : A → List ℕ) (all : List A) (i : ℕ) (x : A
       → list_any (λ y. same_name (title y) (title x)) (take i all) ≡ false
   comes_first new said h = sym (so_far (title x)) ∙ not-true _ (sym said ∙ h)
 
-  -- once the name of x is put in, the set has the names of the elements up to x
+  -- once the name of x is put in, the set has exactly the names of the elements up to x
   pub has_one_more : (grown : BTreeSet (String Z)) → i < length all → x ≡ get_or all i x
       → ((other : List ℕ) → has_name grown other ≡ (has_name seen other || same_name (title x) other))
       → HasNames title (take (i + 1) all) grown

@@ -32,7 +32,7 @@ mapped_indices P Q f then [] all i y h = absurd (cc)
 mapped_indices P Q f then (x ∷ xs) all zero y h = let same : f x ≡ y = cc in subst Q same (then x (All-head P x xs all))
 mapped_indices P Q f then (x ∷ xs) all (suc i) y h = mapped_indices P Q f then xs (All-tail P x xs all) i y h
 
--- the world of tables in range keeps the facts of every world (`IsWorld`), if its parts are in range, names differ,
+-- the world of tables in range keeps the facts of every world (`IsWorld`), if what it has is in range, names differ,
 -- neighbours are mutual, and some region is land
 pub is_world : (all : WorldDraft) → IsWorldDraft all → AreWorldPartsOf all (world_parts_of all) → ThingNamesDiffer all
     → All (λ d. HasMutualNeighbours (regions_of all) d.basics.number d.sides.north d.sides.south d.sides.east d.sides.west) all.regions

@@ -11,7 +11,7 @@ use Rattle.atl_tables.specs.declared.fault.WorldFault.{WorldFault}
 abbrev pub element_table : List ℕ → Data → Members
 element_table at d = value_or no_members (value_or_wrong_type at (as_table d))
 
--- the conditions on an element of an array: it is a table, else the fault WrongType; then those on its `element_table`
+-- the conditions on an element of an array: it is a table, else WrongType; then those on this table, or on an empty one
 abbrev pub element_conditions : (List ℕ → Members → Conditions) → List ℕ → Data → Conditions
 element_conditions conditions at d = fault_of (value_or_wrong_type at (as_table d)) ∷ conditions at (element_table at d)
 

@@ -32,8 +32,8 @@ item_at = do
   making ← as_one_condition making_at
   value_only (record { name = name; weight = weight; carry = carry; making = making })
 
--- The conditions on the keys of the table `[[item]]` at a path. Each has its type, and keeps its range or the rule of
--- names; none but `skill`, `level`, `raw` and `raw_count` may be missing.
+-- The conditions on the keys of the table `[[item]]` at a path. Each has its type, numbers are in their ranges, and
+-- `name` keeps the rule of names; none but `skill`, `level`, `raw` and `raw_count` may be missing.
 abbrev pub item_keys : List ℕ → Members → Conditions
 item_keys = conditions_of item_at
 
@@ -46,7 +46,7 @@ abbrev pub other_than : ℕ → Option ℕ → Option ℕ
 other_than i None = None
 other_than i (Some n) = if n == i then None else Some n
 
--- the conditions on the names in the i-th item: `skill` names a skill, and `raw` another item; each may be missing
+-- the conditions that `skill` and `raw` of the i-th item, if there, name a skill and another item; else UnknownName
 unfoldable pub item_known : WorldDraft → ℕ → ItemDraft → Conditions
 item_known all i d =
     optional_name_is_known (path (element_path (codes "item") i) (codes "skill")) (skill_number all) d.making.skill

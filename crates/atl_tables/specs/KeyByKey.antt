@@ -35,7 +35,7 @@ first >>= next = λ at t. record {
 abbrev pub value_only : {A : Type 0} → A → TableReader A
 value_only x = λ at t. record { conditions = []; value = x }
 
--- reads the keys that `table` reads, as one part: all conditions on them become one, whose fault is the first of theirs
+-- reads the keys that `table` reads; all conditions on them become one, which has the first of their faults, if any
 abbrev pub as_one_condition : {A : Type 0} → TableReader A → TableReader A
 as_one_condition table = λ at t. record { conditions = first_fault (conditions_of table at t) ∷ []; value = value_of table at t }
 

@@ -41,8 +41,8 @@ kind_at = do
   purpose ← as_one_condition purpose_at
   value_only (record { name = name; ship = ship; building = building; purpose = purpose })
 
--- The conditions on the keys of the table `[[kind]]` at a path. Each has its type, and keeps its range or the rule of
--- names; none but `capacity`, `crew` and `helps` may be missing.
+-- The conditions on the keys of the table `[[kind]]` at a path. Each has its type, numbers are in their ranges, and
+-- `name` keeps the rule of names; none but `capacity`, `crew` and `helps` may be missing.
 abbrev pub kind_keys : List ℕ → Members → Conditions
 kind_keys = conditions_of kind_at
 
@@ -51,7 +51,7 @@ abbrev pub kind_from : List ℕ → Members → KindDraft
 kind_from = value_of kind_at
 
 -- the conditions on the names in the i-th kind: `material` names an item, `skill` a skill, and `helps`, if it is there,
--- a skill
+-- a skill; else UnknownName
 unfoldable pub kind_known : WorldDraft → ℕ → KindDraft → Conditions
 kind_known all i d =
     name_is_known (path (element_path (codes "kind") i) (codes "material")) (item_number all d.building.material)

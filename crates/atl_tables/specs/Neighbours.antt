@@ -27,7 +27,7 @@ neighbour_fault p regions opposite number (Some m) =
     else Some (BadNeighbour p)
 
 -- The conditions on the neighbour, if there is one, of the i-th region, d, in the north, south, east and west, in this
--- order. It is among the `regions`, and has this region on its opposite side.
+-- order. It is among the `regions`, and has this region on its opposite side; else BadNeighbour.
 unfoldable pub neighbours_at : FinMap nat_cmp RegionPlan → ℕ → RegionDraft → Conditions
 neighbours_at regions i d =
     neighbour_fault (path (element_path (codes "region") i) (codes "north")) regions South d.basics.number d.sides.north

@@ -1,4 +1,4 @@
--- The table `output` of a terrain: each key is the name of an item, with the amount that a region gives in a month.
+-- The table `output` of a terrain. An entry is a key, the name of an item, with the amount that a region gives a month.
 -- See docs/FORMATS.md, "The world file". A key with a fault gives a default value (`value_or`).
 -- `all` has all tables of the file as read, or all entries of the output, and o is the i-th entry.
 use Rattle.std.specs.Prelude.{ℕ, List, [], ◌∷◌, map, codes, take, if◌then◌else◌, Some, None, Result}
@@ -49,7 +49,7 @@ output_path at = path at (codes "output")
 abbrev pub output_table : List ℕ → Members → Members
 output_table at t = value_or no_members (optional_table_at (codes "output") at t)
 
--- reads the table `output` of a terrain: it is a table or missing, and then its entries in the byte order of their keys
+-- reads the table `output` of a terrain, if it is there: in byte order of the keys, amounts from 0 to most_amount
 unfoldable pub output_at : TableReader (List Output)
 output_at = λ at t. record {
   conditions = fault_of (optional_table_at (codes "output") at t)

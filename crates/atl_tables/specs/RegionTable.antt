@@ -84,8 +84,8 @@ sides_from at t = record {
   west = value_or None (west_at at t);
 }
 
--- the conditions on the table `[[region]]` at a path in the first format, which reads no markets: those of
--- `basics_keys` as one, and then those on its sides
+-- the conditions on the table `[[region]]` at a path in the first format, without markets: those on number, name,
+-- terrain, peasants and money as one, and then those on its four sides
 unfoldable pub old_region_keys : List ℕ → Members → Conditions
 old_region_keys at t = first_fault (basics_keys at t) ∷ side_keys at t
 
@@ -97,8 +97,8 @@ old_region_from at t = record { basics = basics_from at t; sides = sides_from at
 abbrev pub as_draft : OldRegion → RegionDraft
 as_draft r = record { basics = r.basics; sides = r.sides; markets = [] }
 
--- the conditions on the table `[[region]]` at a path in the second format: those of the first as one, and then those on
--- its markets
+-- the conditions on the table `[[region]]` at a path in the second format: those of the first format as one, and then
+-- those on its markets
 unfoldable pub region_keys : List ℕ → Members → Conditions
 region_keys at t = first_fault (old_region_keys at t) ∷ markets_keys at t
 
@@ -111,7 +111,7 @@ region_from at t = record { basics = basics_from at t; sides = sides_from at t; 
 unfoldable pub duplicate_market_items : ℕ → RegionDraft → Conditions
 duplicate_market_items i d = duplicate_items (element_path (codes "region") i) d.markets
 
--- the conditions on the names in the i-th region: `terrain` names a terrain, and each market's `item` an item
+-- the conditions on names in the i-th region: `terrain` names a terrain, each market's `item` an item; else UnknownName
 unfoldable pub region_known : WorldDraft → ℕ → RegionDraft → Conditions
 region_known all i d =
     name_is_known (path (element_path (codes "region") i) (codes "terrain")) (terrain_number all d.basics.terrain)

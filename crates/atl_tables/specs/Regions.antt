@@ -19,6 +19,6 @@ duplicate_number_at all i d =
     else None)
     ∷ []
 
--- the conditions that no two regions of the file have the same number
+-- the conditions that no two regions of the file have the same number; else TwoNames
 abbrev pub duplicate_numbers : List RegionDraft → Conditions
 duplicate_numbers all = conditions_on_each (duplicate_number_at all) 0 all

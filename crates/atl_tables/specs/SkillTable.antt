@@ -14,7 +14,7 @@ skill_at = do
   fee ← number_key 0 most_price (codes "fee")
   value_only (record { name = name; fee = fee })
 
--- the conditions on the table `[[skill]]` at a path: `name` is a name, and `fee` a number in its range; none is missing
+-- the conditions on the table `[[skill]]` at a path: it has a `name` by the rule of names, and a `fee` up to most_price
 abbrev pub skill_keys : List ℕ → Members → Conditions
 skill_keys = conditions_of skill_at
 

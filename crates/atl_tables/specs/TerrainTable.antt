@@ -33,8 +33,8 @@ terrain_at = do
   output ← as_one_condition output_at
   value_only (record { name = name; land = land; economy = economy; output = output })
 
--- The conditions on the keys of the table `[[terrain]]` at a path, and on those of its `output`. Each has its type, and
--- keeps its range or the rule of names; none but `output` may be missing.
+-- The conditions on the keys of the table `[[terrain]]` at a path, and on those of its `output`. Each has its type,
+-- numbers are in their ranges, and `name` keeps the rule of names; none but `output` may be missing.
 abbrev pub terrain_keys : List ℕ → Members → Conditions
 terrain_keys = conditions_of terrain_at
 

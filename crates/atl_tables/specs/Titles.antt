@@ -1,4 +1,4 @@
--- Names that must be unique, and the numbers of things by name. See docs/FORMATS.md, "The world file".
+-- Names that must be unique, and the numbers of an array's elements by name. See docs/FORMATS.md, "The world file".
 use Rattle.std.specs.Prelude.{ℕ, List, [], ◌∷◌, take, Option, Some, None, if◌then◌else◌}
 use Rattle.std.specs.List.{list_any, position_from}
 use Rattle.atl_tables.specs.declared.fault.WorldFault.{WorldFault}
@@ -21,7 +21,7 @@ module _ {A : Type 0} (title : A → List ℕ) where
       ∷ []
 
   -- the conditions that no two elements of the array at a path (the first text) have the same name, which is under a
-  -- key (the second text), ignoring ASCII case
+  -- key (the second text), ignoring ASCII case; else TwoNames
   abbrev pub no_duplicates : List ℕ → List ℕ → List A → Conditions
   no_duplicates array key all = conditions_on_each (no_duplicate_before array key all) 0 all
 

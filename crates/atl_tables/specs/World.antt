@@ -59,7 +59,7 @@ tables_of format doc = record {
 unfoldable pub regions_of : WorldDraft → FinMap nat_cmp RegionPlan
 regions_of all = by_number (λ p. p.number) (map (region_of all) all.regions)
 
--- the world that the tables describe, with the numbers of things in place of their names, 0 or None for unknown names
+-- the world that the tables describe, with numbers in place of names by which they refer, 0 or None for unknown ones
 unfoldable pub world_of_tables : WorldDraft → WorldValue
 world_of_tables all = record {
   rules = rules_of all;
@@ -94,7 +94,7 @@ keys_conditions format doc =
     ++ regions_conditions format doc))
 
 -- the conditions that no two terrains, no two items, no two skills and no two kinds have the same name, ignoring ASCII
--- case
+-- case; else TwoNames
 unfoldable pub titles_differ : WorldDraft → Conditions
 titles_differ all =
     no_duplicates (λ d. d.name) (codes "terrain") (codes "name") all.terrains
@@ -102,8 +102,8 @@ titles_differ all =
     ++ (no_duplicates (λ s. s.name) (codes "skill") (codes "name") all.skills
     ++ no_duplicates (λ d. d.name) (codes "kind") (codes "name") all.kinds))
 
--- the conditions that names (`titles_differ`), region numbers, output keys of a terrain and market items of a region
--- are unique, ignoring ASCII case
+-- the conditions that names of terrains, of items, of skills and of kinds, region numbers, output keys of a terrain and
+-- market items of a region are unique, ignoring ASCII case; else TwoNames
 unfoldable pub names_differ : WorldDraft → Conditions
 names_differ all =
     titles_differ all
@@ -111,8 +111,8 @@ names_differ all =
     ++ (conditions_on_each duplicate_output_keys 0 all.terrains
     ++ conditions_on_each duplicate_market_items 0 all.regions))
 
--- the conditions that each name by which a table refers to a terrain, an item or a skill is the name of one; `raw` is
--- that of another item
+-- the conditions that each name by which a table refers to a terrain, an item or a skill is the name of one, and `raw`
+-- that of another item; else UnknownName
 unfoldable pub names_are_known : WorldDraft → Conditions
 names_are_known all =
     rules_known all
@@ -121,7 +121,7 @@ names_are_known all =
     ++ (conditions_on_each (kind_known all) 0 all.kinds
     ++ conditions_on_each (region_known all) 0 all.regions)))
 
--- the conditions that each neighbour of a region is a region, and has this one on its opposite side
+-- the conditions that each neighbour of a region is a region, and has this one on its opposite side; else BadNeighbour
 unfoldable pub neighbours_are_mutual : WorldDraft → Conditions
 neighbours_are_mutual all = conditions_on_each (neighbours_at (regions_of all)) 0 all.regions
 
@@ -130,7 +130,7 @@ abbrev pub is_some_land : List ℕ → Conditions
 is_some_land [] = Some NoLand ∷ []
 is_some_land (n ∷ ns) = None ∷ []
 
--- the conditions on tables beyond their keys: unique names and region numbers, known names, mutual neighbours, land
+-- the conditions on tables beyond keys: unique names and region numbers, known names, mutual neighbours, some land
 abbrev pub table_conditions : WorldDraft → Conditions
 table_conditions all =
     names_differ all

@@ -36,6 +36,7 @@ pub(crate) trait FromTable: Drop {
         ensures sound { IfOk result is_sound };
 }
 
+/// The element at index i as read, else WrongType if it is no table, or its first fault.
 fn one_element<E: FromTable>(
     alloc: Global,
     key: &str,

@@ -14,6 +14,7 @@ pub(crate) trait HasNumber: Drop {
         ensures { result ≡ own_number_of self.now };
 }
 
+/// The values, each under its own number; of two with the same number the map has the first.
 pub(crate) fn by_number<T: HasNumber>(
     alloc: Global,
     values: Vec<T>,

@@ -1,6 +1,6 @@
 //! Reads the tables `[[item]]` and looks up the skills and raw items that they name. A call that
 //! may return a fault may also return `Memory`. `at` is the path of the table. See docs/FORMATS.md,
-//! "The world file".
+//! "The world file". There are at most 2^16 items.
 ghost use Rattle.std.specs.Prelude.{◌≡◌, ◌≢◌, ◌≤◌, ◌<◌, codes, length, IfOk, IfSome, Some, option_and_then};
 ghost use Rattle.atl_tables.specs.Drafts.{IsRecipe, IsItemDraft};
 ghost use Rattle.atl_tables.specs.Results.{Gives};

@@ -41,7 +41,6 @@ impl Drop for MarketDraft {
     }
 }
 
-/// Reads all keys of a table `[[region.market]]`, and keeps the table's path.
 impl FromTable for MarketDraft {
     ghost conditions = { market_keys };
 

@@ -1,4 +1,5 @@
 //! Reads the table `output` of a terrain. A call that may return a fault may also return `Memory`.
+//! `at` is the path of a table. What was read (`all`, `outputs`) is in its ranges.
 //! See docs/FORMATS.md, "The world file".
 ghost use Rattle.std.specs.Prelude.{◌≡◌, ◌≤◌, IfOk, map};
 ghost use Rattle.std.specs.List.{All};

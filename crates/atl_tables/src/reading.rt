@@ -1,5 +1,5 @@
-//! Reads a world file. A call that may return a fault may also return `Memory`. See
-//! docs/FORMATS.md, "The world file".
+//! Reads a world file. A call that may return a fault may also return `Memory`. `document` is the
+//! file, and `all` has its tables as read, in their ranges. See docs/FORMATS.md, "The world file".
 ghost use Rattle.std.specs.Prelude.{◌≡◌, ◌≤◌, ◌<◌, ◌++◌, length, IfOk};
 ghost use Rattle.std.specs.List.{All};
 ghost use Rattle.toml.specs.View.{table_view};
@@ -174,6 +174,7 @@ fn land_numbers(
     Ok(numbers)
 }
 
+/// The world that has all this, which must be one (`IsWorld`) if some region is land; else NoLand.
 fn world_with_land(
     alloc: Global,
     rules: Rules,
@@ -198,6 +199,7 @@ fn world_with_land(
     Ok(World::from_parts(rules, terrains, items, skills, kinds, regions, land))
 }
 
+/// `parts` has the names of `all` looked up. They differ where they must (`ThingNamesDiffer`).
 #[tactic(auto, unfolding(crate::specs::World::neighbours_are_mutual))]
 fn make_world(alloc: Global, all: WorldDraft, parts: WorldParts) -> Result<World, WorldFault>
     requires all { IsWorldDraft all }

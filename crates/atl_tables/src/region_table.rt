@@ -1,5 +1,6 @@
 //! Reads the tables `[[region]]` and looks up the terrains and items that they name. A call that
-//! may return a fault may also return `Memory`. See docs/FORMATS.md, "The world file".
+//! may return a fault may also return `Memory`. `at` is the path of the table, and i its index.
+//! There are at most 2^16 terrains. See docs/FORMATS.md, "The world file".
 ghost use Rattle.std.specs.Prelude.{◌≡◌, ◌≤◌, ◌<◌, IfOk, codes, length, map, unwrap_or};
 ghost use Rattle.toml.specs.View.{table_view};
 ghost use Rattle.atl_tables.specs.Drafts.{AreRegionBasics, IsOldRegion, IsRegionDraft};
@@ -116,7 +117,6 @@ fn read_sides(alloc: Global, at: &str, table: &Table) -> Result<Sides, WorldFaul
     })
 }
 
-/// Reads a table `[[region]]` by the first format: all its keys but `market`.
 impl FromTable for OldRegion {
     ghost conditions = { old_region_keys };
 
@@ -132,7 +132,6 @@ impl FromTable for OldRegion {
     }
 }
 
-/// Reads a table `[[region]]` by the second format: all its keys, and the tables of its markets.
 impl FromTable for RegionDraft {
     ghost conditions = { region_keys };
 

@@ -1,5 +1,6 @@
 //! Reads the table `[rules]` and looks up its skills. A call that may return a fault may also
-//! return `Memory`. See docs/FORMATS.md, "The world file".
+//! return `Memory`. `at` is the path of a table. `all` has all tables as read, in their ranges.
+//! See docs/FORMATS.md, "The world file".
 ghost use Rattle.std.specs.Prelude.{IfOk, length};
 ghost use Rattle.toml.specs.View.{table_view};
 ghost use Rattle.atl_tables.specs.Drafts.{ArePrices, ArePeasantRules, AreMenRules, AreRulesDraft, IsWorldDraft};

@@ -1,6 +1,6 @@
-//! Names that must be unique, and the numbers of things by name. A call that may return a fault may
-//! also return `Memory`. `at` is the path of a table, and a title is the name of an element.
-//! See docs/FORMATS.md, "The world file".
+//! Names that must be unique, and the numbers of elements by name. A call that may return a fault
+//! may also return `Memory`. `at` is the path of a table, and a title is the name of an element.
+//! Where elements are numbered, there are at most 2^16. See docs/FORMATS.md, "The world file".
 ghost use Rattle.std.specs.Prelude.{◌≡◌, ◌≤◌, ◌<◌, ℕ, List, length, not, ◌||◌, IfOk, OnOk, OnErr, IfSome, Some, None, unwrap_or, option_and_then, option_map};
 ghost use Rattle.std.specs.BTreeSet.{IsUnchanged};
 ghost use Rattle.atl_tables.specs.Each.{conditions_on_each};

@@ -1,5 +1,6 @@
 //! The tables of a world file as read, with names not looked up yet, and their look-up. A call that
-//! may return a fault may also return `Memory`. See docs/FORMATS.md, "The world file".
+//! may return a fault may also return `Memory`. Names are looked up once all tables are in their
+//! ranges. See docs/FORMATS.md, "The world file".
 ghost use Rattle.std.specs.Prelude.{◌≡◌, ℕ, IfOk, map};
 ghost use Rattle.std.specs.List.{All};
 ghost use Rattle.atl_tables.specs.Drafts.{IsWorldDraft};

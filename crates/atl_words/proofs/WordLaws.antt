@@ -84,14 +84,15 @@ words-bare b bs h =
     cond-false (is_blank b) _ _ two.0 ∙ cond-false (eqb b semicolon) _ _ one.1 ∙ cond-false (is_quote b) _ _ two.1
     ∙ ap (λ ws. record { bytes = before_first ends_word (b ∷ bs); quoted = false } ∷ ws) (words_after-drop (position_or_len ends_word (b ∷ bs) - 1) bs ∙ ap words (drop-bare (ends_word b) _ b bs h))
 
--- the words of a line, not empty, whose first byte doesn't end words: one without quotes, and those of the rest
+-- A line that isn't empty, and whose first byte doesn't end words, has a first word without quotes, and then the words
+-- of the rest. This word has the bytes up to the first that ends words, or to the line's end.
 pub words-bare_line : (line : List ℕ) → 0 < length line → ends_word (get_or line 0 0) ≡ false
     → words line
     ≡ record { bytes = before_first ends_word line; quoted = false } ∷ words (drop (position_or_len ends_word line) line)
 words-bare_line [] p h = absurd (omega arith)
 words-bare_line (b ∷ bs) p h = words-bare b bs h
 
--- what follows the first byte of bs, a quote; where bs are empty there is none (`closing` is 0), and nothing follows
+-- what is left of bs after `closing` bytes is bs without its first byte, if `closing` is 1, or 0 where bs are empty
 pub after_closing : (bs : List ℕ) (closing : ℕ) → closing ≡ min (length bs) 1
     → take (length bs - closing) (drop closing bs) ≡ drop 1 bs
 after_closing bs closing e = take_rest bs closing ∙ ap (λ n. drop n bs) (e ∙ min_comm (length bs) 1) ∙ drop_min 1 bs
@@ -99,7 +100,7 @@ after_closing bs closing e = take_rest bs closing ∙ ap (λ n. drop n bs) (e �
 digit_value_of : (b : ℕ) → is_ascii_digit b ≡ true → digit_value b ≡ b - 48
 digit_value_of b h = grind (arith, nat_tests)
 
--- a further digit makes the number that is written ten times as large, and adds the digit, its byte less 48
+-- if the byte at i is a digit, the number up to it is ten times that of the bytes before i, plus this byte less 48
 pub one_digit_more : (bytes : List ℕ) (i : ℕ) → i < length bytes → is_ascii_digit (get_or bytes i 0) ≡ true
     → digits_value 10 (take (i + 1) bytes) ≡ digits_value 10 (take i bytes) * 10 + (get_or bytes i 0 - 48)
 one_digit_more bytes i h digit =
@@ -153,7 +154,7 @@ ends_at_further text end line rest a e = record {
   end_is = ap length (append_assoc a.front e.front rest ∙ ap (λ l. a.front ++ l) (sym e.whole)) ∙ a.end_is;
 }
 
--- the bytes of a word are those of the text from `to_end` bytes before the line's end on
+-- the bytes of a word are those of the text from index `end` - `to_end` on, as many as the word has
 pub bytes_in_span : (text : List ℕ) (end : ℕ) (line bytes : List ℕ) (to_end : ℕ) → EndsAt text end line
     → IsPartOf line bytes to_end → slice_range text (end - to_end) (end - to_end + length bytes) ≡ bytes
 bytes_in_span text end line bytes to_end a s =

@@ -19,7 +19,7 @@ pub record HeaderValue : Type 0 where
   pub next : ℕ
   pub rest : List (List ℕ)
 
--- what the header at line n gives: the faction that it names, and `rest`, the lines after it; without one, BadHeader
+-- what the header at line n gives: its faction, and `rest`, the lines after it; BadHeader if it names no faction (None)
 abbrev pub header_line : ℕ → List (List ℕ) → Option ℕ → Result HeaderValue MailFault
 header_line n rest None = Err BadHeader
 header_line n rest (Some faction) = Ok (record { faction = faction; next = n + 1; rest = rest })

@@ -19,13 +19,13 @@ pub record EndsWith (line rest : List ℕ) : Type 0 where
   pub front : List ℕ
   pub whole : line ≡ front ++ rest
 
--- `rest` is a part of a text, and ends at the index `end` of the text
+-- `rest` is a part of a text, and ends just before the index `end` of the text
 pub record EndsAt (text : List ℕ) (end : ℕ) (rest : List ℕ) : Type 0 where
   pub front : List ℕ
   pub back : List ℕ
   pub whole : text ≡ front ++ (rest ++ back)
   pub end_is : length (front ++ rest) ≡ end
 
--- the rest of a cursor's line is a part of its text, and ends at the index `end`
+-- the rest of a cursor's line is a part of its text, and ends just before the index `end`
 abbrev pub IsCursor : Cursor → Type 0
 IsCursor c = EndsAt c.text.now c.end c.rest.now

@@ -11,7 +11,7 @@ abbrev pub with_front : ℕ → List (List ℕ) → List (List ℕ)
 with_front b [] = (b ∷ []) ∷ []
 with_front b (line ∷ lines) = (b ∷ line) ∷ lines
 
--- the pieces of a text between its line feeds, at least one: its lines before carriage returns are cut off
+-- the pieces of a text between its line feeds, at least one; a carriage return at the end of a piece is still there
 unfoldable pub pieces : List ℕ → List (List ℕ)
 pieces [] = [] ∷ []
 pieces (b ∷ bs) = if is_feed b then [] ∷ pieces bs else with_front b (pieces bs)

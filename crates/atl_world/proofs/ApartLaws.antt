@@ -173,7 +173,7 @@ pub mark_taken : (m l : RoomySet) (n : ℕ) → AreMarks m l
 mark_taken m l n h =
     record { apart = apart_remove m.numbers l.numbers n h.apart; fits = omega (arith, len-less m.numbers n, len-less l.numbers n, h.fits) }
 
--- If xs and ys have no number in common, and the number at index i of xs is at most that at index j of ys, it is less.
+-- If xs and ys share no number, and the number at an index i of xs is at most that at an index j of ys, it is less.
 pub less_apart : (xs ys : List ℕ) (i j : ℕ) → AreApart (set.from_list xs) (set.from_list ys) → i < length xs
     → j < length ys → get_or xs i 0 ≤ get_or ys j 0 → get_or xs i 0 < get_or ys j 0
 less_apart xs ys i j h l m le =

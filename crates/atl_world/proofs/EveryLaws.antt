@@ -76,7 +76,7 @@ module _ {V : Type 0} where
         | Greater ↦ λ g. absurd (false≢true g)
       ] (and_parts _ _ h).0
 
-  -- what sorted entries have under a number, leaving out the first entry, they also have with it
+  -- if entries without their first one, e, have v under n, they have v under n with e in front too, if they are sorted
   pub later : (e : ℕ × V) (es : List (ℕ × V)) (n : ℕ) (v : V) → is_sorted nat_cmp (e ∷ es) ≡ true
       → find nat_cmp n es ≡ Some v → find nat_cmp n (e ∷ es) ≡ Some v
   later e es n v s is =

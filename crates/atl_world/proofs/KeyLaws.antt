@@ -57,13 +57,14 @@ module _ {K : Type 0} {R : K → K → Ordering} (o : IsTotalOrder R) where
   abbrev pub RisesTo : ℕ → List K → Type 0
   RisesTo i ks = (d : K) (k : ℕ) → k + 1 < i → R (get_or ks k d) (get_or ks (k + 1) d) ≡ Less
 
-  -- keys rise strictly if each but the last is less than the one after it (RisesTo)
+  -- keys, at most i of them, rise strictly, if each of the first i but the last is less than the one after it (RisesTo)
   pub rises : (ks : List K) (i : ℕ) → length ks ≤ i → RisesTo i ks → IsStrictlySortedBy R ks
   unfolding IsStrictlySortedBy
   rises [] i most steps = tt
   rises (x ∷ xs) i most steps = sorted_from_all_adjacent o (x ∷ xs) x (λ k l. steps x k (omega (arith, l, most)))
 
-  -- if the first i keys rise (RisesTo), and the key x at i - 1 is less than the key y at i, the first i + 1 keys rise
+  -- if the first i keys, at least one, rise (RisesTo), and the last of them, x, is less than the next one, y, the first
+  -- i + 1 keys rise
   pub rises_more : (ks : List K) (i : ℕ) (x y : K) → 1 ≤ i → i < length ks → x ≡ get_or ks (i - 1) x → y ≡ get_or ks i y
       → R x y ≡ Less → RisesTo i ks → RisesTo (i + 1) ks
   rises_more ks i x y some within x_is y_is above steps d k l = by_order (cases_order (k + 1) i)

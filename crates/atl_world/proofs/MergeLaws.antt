@@ -184,7 +184,7 @@ all_under [] n h = tt
 all_under (x ∷ xs) n h =
     (sym (nat_cmp_is x n Less (h 0 (omega arith))), all_under xs n (λ k l. h (suc k) (omega (arith, l))))
 
--- the first `count` numbers of a sorted list are all less than n, if the last of these is, or there is none
+-- the first `count` numbers of a sorted list that has as many are less than n, if the last of them is, or `count` is 0
 pub under_last : (xs : List ℕ) (count n : ℕ) → IsRising xs → count ≤ length xs
     → (0 < count → get_or xs (count - 1) 0 < n) → Under (take count xs) n
 under_last xs count n s l h = all_under (take count xs) n (λ k m.

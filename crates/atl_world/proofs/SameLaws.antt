@@ -1,4 +1,4 @@
--- Two maps of regions are equal but for markets exactly if their entries are equal but for markets.
+-- Two maps of regions are equal but for markets exactly if their entries, regions with their numbers, are so.
 use Rattle.std.proofs.Common.{◌≡◌, ℕ, List, ◌∷◌, map, sym, ap, ◌∙◌}
 use Rattle.std.specs.FinMap.{FinMap, entries, same_entries_map}
 use Rattle.std.specs.Ordering.{nat_cmp}
@@ -7,7 +7,7 @@ use Rattle.atl_world.specs.Sums.{map_values}
 use Rattle.atl_world.specs.declared.world.RegionPlan.{RegionPlan}
 use Rattle.atl_world.proofs.MappedLaws.{entries-mapped}
 
--- entries, each a region with its number, with the markets left out
+-- entries of a map of regions, with the markets left out
 abbrev pub entries_without_markets : List (ℕ × RegionPlan) → List (ℕ × RegionPlan)
 entries_without_markets es = map (λ e. (e.0, without_market e.1)) es
 

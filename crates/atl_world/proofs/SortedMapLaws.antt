@@ -1,5 +1,5 @@
--- Laws of a map built entry by entry in sorted order: each entry that comes next has a new number. n is the whole map,
--- m the map of its first entries, (k, w) the next entry, and `fs` are those after it. q is a number.
+-- Laws of a map built entry by entry, each a number with its value, in sorted order: each has a new number. n is the
+-- whole map, m the map of its first entries, (k, w) the next entry, and `fs` are those after it. q is a number.
 use Rattle.std.proofs.Common.{◌≡◌, ℕ, true, false, T, List, [], ◌∷◌, ◌++◌, Some, None, refl, sym, ap, subst, ◌∙◌}
 use Rattle.std.specs.Prelude.{cond}
 use Rattle.std.specs.Ordering.{nat_cmp, is_eq, is_lt, ordering_reverse}

@@ -100,14 +100,14 @@ module _ {X : Type 0} where
   abbrev numbers_passing : (p : X → Bool) → List (ℕ × X) → List ℕ
   numbers_passing p es = map (λ e. e.0) (filter (λ e. p e.1) es)
 
-  -- If b is true, to put e in front of the entries of es that pass the test p puts the number of e in front of their
-  -- numbers. For `chosen-cons`.
+  -- for `chosen-cons`, where b says whether the value of e passes the test
   chosen-cond : (p : X → Bool) (b : Bool) (e : ℕ × X) (es : List (ℕ × X))
       → map (λ e. e.0) (cond b (e ∷ filter (λ e. p e.1) es) (filter (λ e. p e.1) es))
       ≡ cond b (e.0 ∷ numbers_passing p es) (numbers_passing p es)
   chosen-cond p true e es = refl
   chosen-cond p false e es = refl
 
+  -- the numbers among e ∷ es whose values pass: that of e, if its value passes, and then those among es
   pub chosen-cons : (p : X → Bool) (e : ℕ × X) (es : List (ℕ × X))
       → numbers_passing p (e ∷ es) ≡ cond (p e.1) (e.0 ∷ numbers_passing p es) (numbers_passing p es)
   chosen-cons p e es = chosen-cond p (p e.1) e es
@@ -133,7 +133,7 @@ module _ {X : Type 0} where
         | Greater ↦ λ g. chosen-cons p e (put nat_cmp k v es) ∙ ap (λ ns. cond (p e.1) (e.0 ∷ ns) ns) (chosen-put_other p k v h es g) ∙ sym (chosen-cons p e es)
       ] g
 
-  -- replacing u by v leaves the numbers whose values pass the test p, if v passes exactly where u does
+  -- replacing u, the value under k, by v leaves the numbers whose values pass the test p, if both pass it or both fail
   pub numbers_where-insert_known : (p : X → Bool) (m : FinMap nat_cmp X) (k : ℕ) (u v : X) → get m k ≡ Some u
       → p u ≡ p v → numbers_where p (insert m k v) ≡ numbers_where p m
   numbers_where-insert_known p m k u v h same =

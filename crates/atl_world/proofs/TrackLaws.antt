@@ -164,7 +164,7 @@ module _ {V : Type 0} where
       → ◌≡◌ {A = MarkedMapValue V} (record { values = v; marks = m }) (record { values = w; marks = n })
   same_parts v w m n p q = λ i. record { values = p i; marks = q i }
 
-  -- removing n, and marking n where it has a value, gives `without_value_at`
+  -- if c has o under n: c with n removed, and with n marked where o is a value, is `without_value_at c n o`
   pub without_value_is : (c : MarkedMapValue V) (n : ℕ) (o : Option V) → get c.values n ≡ o
       → ◌≡◌ {A = MarkedMapValue V} (record { values = remove c.values n; marks = marked_with c.marks n o }) (without_value_at c n o)
   without_value_is c n None e = same_parts _ _ _ _ (remove_none c.values n e) refl
@@ -178,7 +178,8 @@ module _ {V : Type 0} where
   insert_is_undone c n x false fresh h =
       same_parts _ _ _ _ (remove_undoes_insert c.values n x fresh) (insert_undone c.marks n h)
 
-  -- a value put in under a number without one, and taken out again, leaves the values and the marks as they were
+  -- After x is put in under n, which had no value, `without_new_value` gives c back, values and marks, if its flag says
+  -- whether n was marked before.
   pub taken_out-undone : (c : MarkedMapValue V) (n : ℕ) (x : V) → get c.values n ≡ None
       → without_new_value (with_value c n x) n (set.contains c.marks n) ≡ c
   taken_out-undone c n x fresh = insert_is_undone c n x (set.contains c.marks n) fresh refl

@@ -1,4 +1,4 @@
--- Looks up parts of a world by number: terrains, neighbours, markets, kinds and fees.
+-- Looks up things of a world by number: terrains, neighbours, markets, kinds and fees.
 use Rattle.std.specs.Prelude.{ℕ, Bool, false, Option, option_and_then}
 use Rattle.std.specs.FinMap.{get}
 use Rattle.std.specs.List.{slice_get}

@@ -5,18 +5,16 @@ use Rattle.std.specs.Str.{str_eq_ignore_ascii_case}
 use Rattle.atl_world.specs.Letters.{space, underscore}
 use Rattle.atl_world.specs.Worlds.{WorldValue}
 
--- the byte of a name that a byte of a word means: the byte itself, but a space for `_` in a word without quotes (the
--- flag `quoted` is false)
+-- the byte of a name that a byte of a word means: the byte itself, but a space for `_` in a word without quotes
 abbrev pub letter_of : Bool → ℕ → ℕ
 letter_of quoted b = if quoted then b else if b == underscore then space else b
 
--- the name that a word means: its bytes, with a space for each `_` in a word without quotes (the flag `quoted` is
--- false)
+-- the name that a word means: its bytes, with a space for each `_` in a word without quotes
 abbrev pub name_of : List ℕ → Bool → List ℕ
 name_of word quoted = map (letter_of quoted) word
 
--- the index of the first item, skill or kind of a list whose title is the name that a word means (`name_of`), ignoring
--- ASCII case; None if there is none
+-- the index of the first item, skill or kind of a list whose name, which `title` gives, is the name that a word means
+-- (`name_of`), ignoring ASCII case; None if there is none
 abbrev pub index_named : {A : Type 0} → (A → List ℕ) → List A → List ℕ → Bool → Option ℕ
 index_named title things word quoted = position (λ thing. str_eq_ignore_ascii_case (title thing) (name_of word quoted)) things
 

@@ -46,6 +46,6 @@ row_of Work = row (codes "WORK") shapes.Nothing (Some MonthLong)
 abbrev pub keyword : Verb → List ℕ
 keyword verb = (row_of verb).keyword
 
--- a row of the code's order table as a row of the definitions
+-- the row of the definitions that has the keyword, the shape and the slot of a row of the code
 abbrev pub row_value : CodeRow → Row
 row_value r = row r.keyword.now r.shape r.slot

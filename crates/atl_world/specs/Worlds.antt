@@ -33,12 +33,12 @@ pub record WorldValue : Type 0 where
   pub kinds : List Kind
   pub regions : FinMap nat_cmp RegionPlan
 
--- the world made of its parts: rules, terrains, items, skills, kinds and regions
+-- the world that has these rules, terrains, items, skills, kinds and regions
 abbrev pub world_of_parts : Rules → List Terrain → List Item → List Skill → List Kind → FinMap nat_cmp RegionPlan → WorldValue
 world_of_parts rules terrains items skills kinds regions =
     record { rules = rules; terrains = terrains; items = items; skills = skills; kinds = kinds; regions = regions }
 
--- for proofs alone: a world encoded as nested pairs of its parts, as the kit asks of a type that contracts see
+-- for proofs alone: a world encoded as nested pairs of what it has, as the kit asks of a type that contracts see
 abbrev pub world_code : Coded WorldValue
 world_code =
     code_by (Rules × (List Terrain × (List Item × (List Skill × (List Kind × FinMap nat_cmp RegionPlan)))))
@@ -76,7 +76,7 @@ neighbour_to West p = p.west
 
 -- ---- what is true of every world: numbers are in their ranges, and the number of a thing is below how many there are
 
--- the numbers of the rules r are in their ranges, and the skills that r refers to are among `skills` skills
+-- the numbers of the rules r are in their ranges, and the skills that r refers to, if any, are among `skills` skills
 pub record AreRules (skills : ℕ) (r : Rules) : Type 0 where
   pub maintenance_least : 1 ≤ r.maintenance
   pub maintenance : r.maintenance ≤ most_per_head
@@ -126,7 +126,7 @@ pub record IsSkill (s : Skill) : Type 0 where
   pub fee : s.fee ≤ most_price
 
 -- The name of the kind k keeps the rule of names, and its numbers are in their ranges. Its material is one of `items`
--- items, and its skills are among `skills` skills.
+-- items. Its skill, and the skill that it helps, if any, are among `skills` skills.
 pub record IsKind (items skills : ℕ) (k : Kind) : Type 0 where
   pub name : name_ok k.name ≡ true
   pub material : k.material < items
@@ -174,9 +174,9 @@ pub record HasMutualNeighbours (regions : FinMap nat_cmp RegionPlan) (number : �
   pub east : LeadsBack regions (λ q. q.west) number e
   pub west : LeadsBack regions (λ q. q.east) number w
 
--- What is true of every world: parts in their ranges, mutual neighbours, and some region of land. No two terrains, no
--- two items, no two skills and no two kinds have one name (`NamesDiffer`). Of these and of regions there are at most as
--- many as the limits say.
+-- What is true of every world: numbers in their ranges, references only to what it has, mutual neighbours, and some
+-- region of land. No two terrains, no two items, no two skills and no two kinds have one name, ignoring ASCII case. Of
+-- these and of regions there are at most as many as the limits say.
 pub record IsWorld (w : WorldValue) : Type 0 where
   pub rules : AreRules (length w.skills) w.rules
   pub terrains : (i : ℕ) (t : Terrain) → slice_get w.terrains i ≡ Some t → IsTerrain (length w.items) t

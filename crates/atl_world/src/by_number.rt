@@ -1,4 +1,5 @@
-//! Looks up parts of a world by number, without memory: terrains, neighbours, markets, kinds, fees.
+//! Looks up things of a world by number, without memory: terrains, neighbours, markets, kinds and
+//! fees. What is found is in its ranges, as in every world.
 ghost use Rattle.std.specs.Prelude.{◌≡◌, ◌≤◌, IfSome, length};
 ghost use Rattle.std.specs.List.{slice_get};
 ghost use Rattle.std.specs.Option.{option_copied};

@@ -1,4 +1,5 @@
-//! Finds the item, skill or kind that a word names. See docs/RULES.md, "Names in orders".
+//! Finds the item, skill or kind that a word names. The flag `quoted` says whether the word is in
+//! quotes. See docs/RULES.md, "Names in orders".
 ghost use Rattle.std.specs.Prelude.{◌≡◌, ◌<◌, length, IfSome};
 ghost use Rattle.std.specs.Str.{str_eq_ignore_ascii_case};
 ghost use Rattle.atl_world.specs.Lookup.{letter_of, name_of, index_named, item_named, skill_named, kind_named};

@@ -56,6 +56,7 @@ impl<'a> Iterator for MarkedNumbers<'a> {
     }
 }
 
+/// Takes the first number out of the iterator, `None` if none is left.
 fn next_of(numbers: &mut Iter<'_, u32>) -> Option<u32>
     ensures { YieldsFirstBy (λ n. n) iter_rest numbers.old result numbers.new }
 {

@@ -170,7 +170,7 @@ impl Marks {
     }
 }
 
-/// Also false once the list has `RECENT_LIMIT` numbers, whatever its room.
+/// If true, the list has room for one number more. False from `RECENT_LIMIT` numbers on.
 fn has_recent_room(recent: &SortedNumbers) -> bool
     ensures { result ≡ true → set.len recent.now.numbers < recent.now.room }
 {

@@ -147,12 +147,13 @@ impl SortedNumbers {
     }
 }
 
+/// Ok with the index of a number that the list has, else Err with the index where it belongs.
 fn index_of(numbers: &[u32], number: u32) -> Result<usize, usize>
     requires { IsStrictlySortedBy nat_cmp numbers.now }
     ensures found { IfOk result (λ index. IsAt numbers.now number index) }
     ensures missing { IfErr result (λ index. BelongsAt numbers.now number index) }
 {
-    // Most numbers come in ascending order, so each belongs behind the last one.
+    // Most numbers come in ascending order, so each belongs after the last one.
     match numbers.last() {
         Some(last) if *last < number => Err(numbers.len()),
         _ => numbers.binary_search(&number),
@@ -168,8 +169,8 @@ fn put_at(numbers: &mut Vec<u32>, index: usize, number: u32)
     let _ = numbers.insert(index, number);
 }
 
-/// The clause `small` tells `SortedNumbers::len` that the number `last`, which has 32 bits, is
-/// below 2^32.
+/// The length of a slice. `last` is any number of 32 bits, and so below 2^32 (`small`):
+/// `SortedNumbers::len` needs this.
 fn length_of_bounded(numbers: &[u32], last: u32) -> usize
     ensures value { result ≡ length numbers.now }
     ensures small { last < number_count }
@@ -203,8 +204,8 @@ fn is_last_above(numbers: &[u32], count: usize, other: u32) -> bool
     count > 0 && numbers[count - 1] > other
 }
 
-/// The first `own` numbers of the slice are the list's; behind them there is a place for each of
-/// the others. The largest number is put in place first, so each is moved at most once.
+/// Merges `others` into the first `own` numbers of the slice, after which it has a place for each
+/// of the others. The largest number is put in place first, so each is moved at most once.
 fn merge(numbers: &mut [u32], own: usize, others: &[u32])
     requires size { length numbers.old ≡ own + length others.now }
     requires ascending { IsStrictlySortedBy nat_cmp (take own numbers.old) }

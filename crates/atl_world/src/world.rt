@@ -227,8 +227,8 @@ impl Model for World {
 impl World {
     ghost use Rattle.atl_world.specs.Worlds.{IsWorld, land_of, world_of_parts};
 
-    /// Makes the world of its parts, which together must be a world (`IsWorld`); `land` has the
-    /// numbers of the regions whose terrain is land, in ascending order.
+    /// Makes the world that has all this, which must be a world (`IsWorld`); `land` has the numbers
+    /// of the regions whose terrain is land, in ascending order.
     pub fn from_parts(
         rules: Rules,
         terrains: Sequence<Terrain>,
