@@ -18,7 +18,7 @@ use atl_world::{Sequence, Text, World, name_ok, pass_ok};
 use sqlite::{Alter, Connection};
 use std::alloc::{AllocError, Global};
 
-/// The commit is the last call that can fail.
+/// Refuses a join, or makes it and writes it. The commit is the last call that can fail.
 fn join<S: Alter>(
     alloc: Global,
     world: &World,
@@ -134,7 +134,7 @@ fn mailing_to_keep(
     Ok(mailing)
 }
 
-/// The commit is the last call that can fail.
+/// Refuses a mailing, or stores it and writes it. The commit is the last call that can fail.
 fn mail<S: Alter>(
     alloc: Global,
     world: &World,

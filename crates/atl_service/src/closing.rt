@@ -129,7 +129,7 @@ fn check_close(
     Ok(())
 }
 
-/// The commit is the last call that can fail.
+/// Closes the month and writes it, or refuses to. The commit is the last call that can fail.
 pub(crate) fn close<S: Alter>(
     alloc: Global,
     world: &World,

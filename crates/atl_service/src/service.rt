@@ -163,7 +163,8 @@ impl<S: Alter> Service<S> {
         Some(books_text(self.alloc, &self.world, campaign))
     }
 
-    /// The world of the campaign, as it was founded or upgraded; also after a fault.
+    /// The world of the campaign, as it was founded or upgraded; also after a fault. While the
+    /// service is open and the disk is clean, the world text in its tables reads as this world.
     pub fn world(&self) -> &World
         ensures value { result.now ≡ self.now.world }
         ensures text { HasCleanDisk (state S.Store self.now.conn) → IsSome self.now.campaign
