@@ -37,9 +37,10 @@ reports_at faction line m = filter (is_from faction line) (map report_of m.event
 -- ---- what a phase adds
 
 -- What a phase adds to the events of an order's faction and line: events with the reports `added`, given whether the
--- order counts in its mailing, and the order. This supposes that the mailings can be read with the world. The phase
--- keeps the mailings and the aliases.
+-- order counts in its mailing, and the order. The phase keeps the mailings and the aliases.
 pub record Gives (added : Bool → Task → List Report) (meaning : Meaning) : Type 0 where
+  -- if the mailings can be read with the world, the reports of an order's faction and line are, after the phase, those
+  -- from before, and then `added`; for this the order is in its faction's mailing
   pub events : (w : WorldValue) (c : CampaignValue) (m : MonthValue) (aliases : Aliases) (readings : FinMap nat_cmp Reading)
       → m.aliases ≡ aliases → m.readings ≡ readings → AreFit w readings
       → (t : Task) (there : IsInMailing aliases readings t)

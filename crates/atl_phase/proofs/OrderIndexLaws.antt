@@ -54,9 +54,10 @@ module _ (is_of : Verb → Bool) (aliases : Aliases) (ms : List Mailing) (at : �
       ap (λ es. filter is_wanted (tasks_from aliases read.faction i (map (entry_value read.text) es)))
       (drop_more read.entries i no_entry h)
 
-  -- the list has the indices of the orders that count before index i of the mailing, after those of `old`
+  -- the list has the indices of `old`, and then those of the orders that count before index i of the mailing
   pub record Added (old : List OrderIndex) (i : ℕ) (list : List OrderIndex) : Type 0 where
     pub there : All (IsThere ms) old → All (IsThere ms) list
+    -- the orders that `list` names, and then those that count from index i on, are those of `old` and all that count
     pub tasks : map (task_at ms) list ++ rest_from i ≡ map (task_at ms) old ++ rest_from 0
 
   -- `list` has the indices of the orders that count before the order at i, after those of `old` (`before`)
@@ -94,7 +95,8 @@ module _ (is_of : Verb → Bool) (aliases : Aliases) (ms : List Mailing) (at : �
       index = i;
     }
 
-    -- the code finds by the noted lines of the mailing (b) whether the order at i counts for the phase
+    -- if `lines` are the greatest lines of the mailing by slot and unit, what the code finds by them (b) is whether the
+    -- order at i counts for the phase
     pub counts_by : (lines : LastLineMap) (b : Bool) → AreLastLines (tasks_at aliases ms at) lines
         → b ≡ (is_of e.order.verb && counts_by_lines lines unit e.line (row_of e.order.verb).slot) → counts i ≡ b
     counts_by lines b last is =

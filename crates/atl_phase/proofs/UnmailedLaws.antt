@@ -40,22 +40,26 @@ use Rattle.atl_phase.proofs.PhaseOrderLaws.{orders_are_in_mailings}
 
 -- ---- phases one after the other
 
--- After the phase, if it keeps what `keeps` says, each unit of a faction without a mailing is there. It has its faction
--- and name, no less of any item, and its men less exactly those who starve. The phase keeps the mailings and takes back
--- no Starved event.
+-- The phase keeps the mailings, takes back no Starved event, and leaves units of factions without a mailing their
+-- names, their items, and their men less the starved.
 pub record LeavesUnmailed (meaning : Meaning) (keeps : Frame) : Type 0 where
   pub readings : (w : WorldValue) (c : CampaignValue) (m : MonthValue) → (meaning w c m).1.readings ≡ m.readings
+  -- of each unit the events report no fewer starved men than before the phase
   pub starved_reported : (w : WorldValue) (c : CampaignValue) (m : MonthValue) (n : ℕ)
       → starved_in m.events n ≤ starved_in (meaning w c m).1.events n
+  -- If the phase keeps what `keeps` says, each unit of a faction without a mailing is there after it. It has its faction
+  -- and name, no less of any item, and its men less exactly those whom the phase's events report as starved.
   pub left : (w : WorldValue) (c : CampaignValue) (m : MonthValue) → keeps w m c (meaning w c m).0 →
       Every (λ n u. get m.readings u.faction ≡ None → IsStillThere (IsLessBy (starved_in (meaning w c m).1.events n - starved_in m.events n)) (meaning w c m).0 n u) c.units
 
--- After the phase, if it keeps what `keeps` says, each unit of a faction without a mailing is there. It has its faction
--- and name, no less of any item, and its men less exactly those who starve. It is removed if all its men starve, and no
--- more starve than it has (`IsLeft`). The phase takes back no Starved event, and may change the mailings.
+-- The phase takes back no Starved event, and may change the mailings.
 pub record ClosesUnmailed (meaning : Meaning) (keeps : Frame) : Type 0 where
+  -- of each unit the events report no fewer starved men than before the phase
   pub starved_reported : (w : WorldValue) (c : CampaignValue) (m : MonthValue) (n : ℕ)
       → starved_in m.events n ≤ starved_in (meaning w c m).1.events n
+  -- If the phase keeps what `keeps` says, each unit of a faction without a mailing is left its faction and name, no
+  -- less of any item, and its men less exactly those whom the phase's events report as starved. No more starve than it
+  -- has. If all its men starve, it is removed instead (`IsLeft`).
   pub left : (w : WorldValue) (c : CampaignValue) (m : MonthValue) → keeps w m c (meaning w c m).0 →
       Every (λ n u. get m.readings u.faction ≡ None → IsLeft (starved_in (meaning w c m).1.events n - starved_in m.events n) (meaning w c m).0 n u) c.units
 
@@ -91,7 +95,8 @@ still_none one w c m f g same none =
 
 -- two phases, `first` and then `second`, with what each keeps: `early` for the first, and `late` for the second
 module _ {first second : Meaning} {early late : Frame} where
-  -- two phases in turn leave units of factions without a mailing as `LeavesUnmailed` says, if each does
+  -- two phases in turn leave units of factions without a mailing their names and items, and their men less the starved
+  -- (`LeavesUnmailed`), if each does
   pub both_leave : LeavesUnmailed first early → LeavesUnmailed second late
       → LeavesUnmailed (then_also first second) (both_keep first early late)
   both_leave one two = record {
@@ -104,7 +109,8 @@ module _ {first second : Meaning} {early late : Frame} where
         record { unit = b.unit; there = b.there; is_unaffected = less_twice _ _ _ u a.unit b.unit (one.starved_reported w c m n) (two.starved_reported w between.0 between.1 n) a.is_unaffected b.is_unaffected };
   }
 
-  -- a phase of `LeavesUnmailed` and then one of `ClosesUnmailed` together do as `ClosesUnmailed` says
+  -- If the first phase leaves such units their names, items and men less the starved (`LeavesUnmailed`), and the second
+  -- one also removes those all of whose men starve (`ClosesUnmailed`), both in turn do as the second one.
   pub then_closes : LeavesUnmailed first early → ClosesUnmailed second late
       → ClosesUnmailed (then_also first second) (both_keep first early late)
   then_closes one two = record {
@@ -336,9 +342,10 @@ module _ (step : OrderMeaning) where
         let ts = orders_of is_of ByUnit m.aliases m.readings in
         orders_leave_men unaffected w c m ts n u there (recursion_from_All (λ t. t.faction ≢ u.faction) ts (none_ordered is_of ByUnit m u.faction none))
 
-    -- A phase that carries out its orders one by one does as `LeavesUnmailed` says. For this each order must leave
-    -- units of other factions their men (`LeavesOthersMen`). Where `keeps` is so of a change from c to d, units of
-    -- factions without a mailing must keep their names and items (`HasItsItems`).
+    -- A phase that carries out its orders one by one leaves units of factions without a mailing their names, items and
+    -- men (`LeavesUnmailed`). For this each order must leave units of other factions their men (`LeavesOthersMen`).
+    -- Where `keeps` is so of a change from c to d, units of factions without a mailing must keep their names and items
+    -- (`HasItsItems`).
     pub carried_leaves : {keeps : Frame} → LeavesOthersMen step
         → ((w : WorldValue) (c d : CampaignValue) (m : MonthValue) → keeps w m c d → UnmailedAre HasItsItems m c d)
         → LeavesUnmailed (meaning_by_orders step is_of) keeps
