@@ -1,8 +1,8 @@
 -- Laws of QUIT: units leave, what they had is booked as gone, and structures get other owners; the campaign stays
 -- steady. A unit is no worse off, unless its faction quits by an order for a unit that was its own as the phase began.
--- A unit is no worse off (`IsNoWorse`) with the same faction, place, name and guard flag, and no less men, money, goods
--- and days. In the laws e is an entry of the books, s and t are things, and h is what a unit holds. `es` and `xs` list
--- items with their amounts, and i is an index within `xs`.
+-- A unit is no worse off (`IsNoWorse`) with the same faction, region, structure, name and guard flag, and no fewer men,
+-- no less money, goods or days. In the laws e is an entry of the books, s and t are things, and h is what a unit holds.
+-- `es` and `xs` list items with their amounts, and i is an index within `xs`.
 use Rattle.std.proofs.Common.{◌≡◌, ◌≢◌, ◌==◌, ℕ, ◌+◌, ◌*◌, ◌≤◌, ◌<◌, not, Bool, true, false, cond, List, [], ◌∷◌, length, drop, get_or, Option, Some, None, refl, sym, ap, subst, ◌∙◌, inl, inr, arith}
 use Rattle.std.specs.Prelude.{ℤ, pos, neg_ℤ, ◌+ℤ◌, IfSome, fold, unwrap_or, if◌then◌else◌}
 use Rattle.std.proofs.lemmas.Int.{ints}
@@ -212,11 +212,12 @@ moves_what_leaves h e s =
 
 -- ---- a campaign in which amounts of things are booked as gone
 
--- The campaign d is c with `gone` of each thing booked as gone, and only the books differ. Campaign d is steady, what
--- the books have of a thing falls by `gone`, and no amount of the books moves further than `book_bound`.
+-- Campaign d is c with `gone` of each thing booked as gone: it is steady, and only the books differ.
 pub record BooksAsGone (w : WorldValue) (gone : Thing → ℕ) (book_bound : BookBound) (c d : CampaignValue) : Type 0 where
   pub steady : IsSteady w d
+  -- what the books have of each thing falls by `gone` of it
   pub sum_falls : (s : Thing) → booked c.books s ≡ booked d.books s +ℤ pos (gone s)
+  -- no amount of the books moves further than its bound
   pub near : (e : BooksEntry) (s : Thing) → IsNear (book_bound e s) (amount_in c.books e s) (amount_in d.books e s)
   pub same : d ≡ record c { books = d.books }
 

@@ -1,6 +1,6 @@
-//! QUIT: a faction leaves the campaign with all its units. See docs/RULES.md, "Quitting".
-//! A unit is no worse off (`IsNoWorse`) with the same faction, place, name and guard flag, and no
-//! less men, money, goods and days.
+//! QUIT: a faction leaves the campaign with all its units. See docs/RULES.md, "Quitting". A unit is
+//! no worse off (`IsNoWorse`) with the same faction, region, structure, name and guard flag, and no
+//! fewer men, no less money, goods or days.
 ghost use Rattle.std.specs.Prelude.{◌≡◌, ◌<◌, IfOk, OnOk, fold, length, true};
 ghost use Rattle.atl_records.specs.Books.{amount_in, thing_index};
 ghost use Rattle.atl_campaign.specs.Covers.{MarksChanges};
