@@ -82,9 +82,10 @@ RefusesToWrite g own old new =
 
 -- What a refused founding by a world text and a pass text leaves, by its cause. After a failed check nothing is
 -- changed. After Store and Memory, if the disk is clean, the tables are as before while the connection is open, and a
--- crash may leave the founded campaign (`FailsToFound`). Store comes of a connection that isn't ready, or of an error
--- of the write (`RefusesToWrite`). With Memory the connection is unchanged, or a call of the write ran out of memory
--- (`LacksMemory`). Causes of opening and upgrading never apply.
+-- crash leaves what it could have left before, or the founded campaign (`FailsToFound`). Store comes of a connection
+-- that isn't ready, or of an error of the write (`RefusesToWrite`). With Memory the connection is unchanged, or a call
+-- of the write ran out of memory (`LacksMemory`). What a call gave is known on a clean disk alone. Causes of opening
+-- and upgrading never apply.
 abbrev pub LeavesByCause : {S : Type 0} → Ghosts S → Held S → List ℕ → List ℕ → Held S → Cause → Type 0
 LeavesByCause g old text pass new (BadWorld fault) = new ≡ old
 LeavesByCause g old text pass new BadPassText = new ≡ old

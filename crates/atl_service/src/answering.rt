@@ -99,8 +99,8 @@ impl From<MailFault> for MailError {
     }
 }
 
-/// The refusals come in this order: NoFaction, WrongPass, Gone, then TooLong, NoHeader or BadHeader
-/// of reading the text, WrongFaction.
+/// The mailing as read, if it may be stored. The refusals come in this order: NoFaction, WrongPass,
+/// Gone, then TooLong, NoHeader or BadHeader of reading the text, WrongFaction.
 #[tactic(auto, unfolding(crate::specs::Step::step))]
 fn mailing_to_keep(
     alloc: Global,
@@ -184,7 +184,7 @@ fn report(
     Ok(Answer::Text(text))
 }
 
-/// After an Err the campaign in memory may be changed in part, or lost.
+/// Answers one command. After an Err the campaign in memory may be changed in part, or lost.
 pub(crate) fn answer_to<S: Alter>(
     alloc: Global,
     world: &World,

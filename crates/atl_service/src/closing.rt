@@ -99,7 +99,7 @@ fn turn_month(
     })
 }
 
-/// The refusals come in this order: WrongPass, WrongMonth, MonthLimit, WrongDice.
+/// Refuses to close with the first that applies of WrongPass, WrongMonth, MonthLimit and WrongDice.
 #[tactic(auto, unfolding(crate::specs::Step::step))]
 fn check_close(
     world: &World,
