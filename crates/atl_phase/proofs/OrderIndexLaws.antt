@@ -111,8 +111,8 @@ module _ (is_of : Verb → Bool) (aliases : Aliases) (ms : List Mailing) (at : �
         subst (Added old (i + 1)) (sym (is ∙ ap (λ p. list ++ p ∷ []) found_is))
         (pushed old list i h before within counted)
 
-  -- past the last order of the mailing the list has the old indices and those of all orders of the mailing that count
-  -- for the phase (`AddsMailing`)
+  -- where i is past the last order of the mailing, the list has the old indices and those of all orders of the mailing
+  -- that count for the phase (`AddsMailing`)
   pub ended : (old list : List OrderIndex) (i : ℕ) → length read.entries ≤ i → Added old i list
       → AddsMailing is_of aliases ms at old list
   ended old list i h before = record {
@@ -151,7 +151,7 @@ none_wanted is_of aliases asked faction i text (e ∷ es) h =
     by_test others true g = absurd (true≢false g)
     by_test others false g = others g
 
--- a mailing without an order whose verb passes `is_of` adds no index (`AddsMailing`)
+-- the mailing at index `at`, if no verb of its orders passes `is_of`, adds no index (`AddsMailing`)
 pub adds_none : (is_of : Verb → Bool) (aliases : Aliases) (ms : List Mailing) (at : ℕ) (list : List OrderIndex)
     → list_any (λ (e : Entry). is_of e.order.verb) (mailing_at ms at).entries ≡ false
     → AddsMailing is_of aliases ms at list list

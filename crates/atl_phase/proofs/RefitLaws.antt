@@ -31,7 +31,7 @@ pub record IsRelabelled (before after : Structure) : Type 0 where
   pub done : after.done ≡ before.done
   pub name : IsTrue (name_ok before.name) → IsTrue (name_ok after.name)
 
--- where f mapped over an option makes Some x, the option has a value that f makes x of
+-- where f mapped over an option o makes Some x, the option has a value v of which f makes x
 pub mapped_from : {A B : Type 0} (f : A → B) (o : Option A) (x : B) → option_map f o ≡ Some x
     → (v : A) × (o ≡ Some v) × (f v ≡ x)
 mapped_from f None x is = none_some x is
