@@ -70,7 +70,7 @@ module _ {holds : Condition} {fit : Type 0} (w : WorldValue) (c : CampaignValue)
   keeps_all = keeps_others c (λ h fits. well_same w c h) (λ k apart. refl)
 
   -- an order, with a fault or without, keeps `holds`, the books and the other units (`OrderKeeps`), if its effect
-  -- without a fault does
+  -- without a fault, campaign d and outcome o, does
   pub keeps_unless : (fault : Option EventFault) (d : CampaignValue) (o : Outcome)
       → (fault ≡ None → OrderKeeps holds fit w c n f d) → OrderKeeps holds fit w c n f (fault_or c fault (d, o)).0
   keeps_unless (Some fault) d o keeps = keeps_all

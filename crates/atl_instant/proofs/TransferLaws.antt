@@ -125,8 +125,8 @@ known_skill w h s may some = by_option (get h.days s) refl some
 days_may : (w : WorldValue) (h : HoldingValue) (s : ℕ) → MayHave w h → amount_of h.days s ≤ most_days * h.men
 days_may w h s may = days_within h.days (most_days * h.men) s may.days
 
--- a unit with at least n men may have (`MayHave`) what it holds after n of them went, if it may have what it holds
--- before
+-- a unit with at least n men, which holds h, may have (`MayHave`) what it holds after n of them went, if it may have
+-- what it holds before
 pub may_have_fewer : (w : WorldValue) (n : ℕ) (h : HoldingValue) → n ≤ h.men → MayHave w h
     → MayHave w (after_sending n h)
 may_have_fewer w n h fewer may = record {

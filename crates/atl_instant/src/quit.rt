@@ -75,7 +75,7 @@ fn book_off(world: &World, campaign: &mut Campaign, men: u32, money: u32, items:
     book_items(world, campaign, items);
 }
 
-/// Where the unit isn't there, nothing changes.
+/// Books all that a unit has as gone, and removes it. Where it isn't there, nothing changes.
 #[tactic(auto, unfolding(crate::specs::Quit::after_leaving))]
 fn leave(
     alloc: Global,

@@ -70,7 +70,7 @@ little_lost h none money items e (Item j) = let most = items j in grind (arith, 
 
 -- ---- the unit that receives
 
--- a list whose first number isn't 0 (`first_or_zero`) isn't empty, and has this number
+-- a list `ns` whose first number isn't 0 (`first_or_zero`) isn't empty, and has this number
 pub first_listed : (ns : List ℕ) → first_or_zero ns ≢ 0 → IsListed (first_or_zero ns) ns
 first_listed [] some = absurd (some refl)
 first_listed (n ∷ ns) some = inl refl

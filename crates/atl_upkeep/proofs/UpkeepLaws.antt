@@ -238,7 +238,7 @@ pub upkeep_at_leaves_well : (w : WorldValue) (c : CampaignValue) (s : UpkeepResu
 upkeep_at_leaves_well w c s can =
     rw (upkeep_at_is c s can.unit can.there) (unit_leaves_well w c s can.unit can.there can.spare can.steady)
 
--- the upkeep of a unit leaves each other unit as it was
+-- the upkeep of a unit leaves each other unit n as it was
 pub other_unit : (c : CampaignValue) (s : UpkeepResult) (n : ℕ) → n ≢ s.unit
     → get (upkeep_at c s).units n ≡ get c.units n
 unfolding upkeep_at
@@ -248,7 +248,7 @@ other_unit c s n apart = by_unit (get c.units s.unit)
     by_unit None = refl
     by_unit (Some u) = get-insert_other c.units s.unit n (record u { holding = after_upkeep s u.holding }) apart
 
--- if units are there as listed, and all have greater numbers than the unit of `s`, they are still so after its upkeep
+-- if the units `es` are there as listed, with greater numbers than the unit of `s`, they are still so after its upkeep
 pub each_still : (c : CampaignValue) (s : UpkeepResult) (es : List (ℕ × Unit)) → AllByRecursion (λ e. s.unit < e.0) es
     → EachEntry (λ n u. get c.units n ≡ Some u) es → EachEntry (λ n u. get (upkeep_at c s).units n ≡ Some u) es
 each_still c s [] above there = tt
