@@ -38,13 +38,14 @@ module _ {S : Type 0} (g : Ghosts S) (own : Statements) (old new : Held S) where
   writes_apart : write.Memory ≢ write.Store
   writes_apart is = let e = is in cc
 
-  -- if the fault Memory of creating the tables comes of an error of the statements `own`, this error is out of memory
+  -- if the fault Memory of creating the tables is that of an error of a statement of `own`, or of the commit, this
+  -- error is out of memory
   pub creation_lacked : IsFaultOfError g own create_fault old new create.Memory → GivesError g own true old new
   creation_lacked (e, is, given) =
       record { error = e; memory_is = is_first create.Memory create.Store creates_apart (is_memory e) is; given = given }
 
-  -- if the fault Store of creating the tables comes of an error of the statements `own`, this error is another than out
-  -- of memory
+  -- if the fault Store of creating the tables is that of an error of a statement of `own`, or of the commit, this error
+  -- is another than out of memory
   pub creation_failed : IsFaultOfError g own create_fault old new create.Store → GivesError g own false old new
   creation_failed (e, is, given) =
       record { error = e; memory_is = is_second create.Memory create.Store creates_apart (is_memory e) is; given = given }

@@ -134,7 +134,7 @@ faulty_lines_under w mail n =
 -- ---- the reports
 
 module _ (w : WorldValue) (events : List Event) where
-  -- two functions that give each faction the same faulty lines give the same reports
+  -- two functions f and g that give each faction the same faulty lines give the same reports for the factions `ns`
   pub same_reports : (f g : ℕ → List FaultyLine) → ((n : ℕ) → f n ≡ g n) → (c : CampaignValue) (ns : List ℕ)
       → fold (reported_to w f events) c ns ≡ fold (reported_to w g events) c ns
   same_reports f g same c [] = refl
@@ -142,7 +142,7 @@ module _ (w : WorldValue) (events : List Event) where
       ap (λ faults. fold (reported_to w f events) (reported_with w c n faults events) ns) (same n)
       ∙ same_reports f g same (reported_to w g events c n) ns
 
-  -- a good campaign stays good when reports for some of its factions are stored
+  -- a good campaign stays good when reports for some of its factions (`ns`) are stored
   pub good_reports : (faults : ℕ → List FaultyLine) (c : CampaignValue) (ns : List ℕ) → AreFactions c ns → IsGood w c
       → IsGood w (fold (reported_to w faults events) c ns)
   good_reports faults c [] there good = good

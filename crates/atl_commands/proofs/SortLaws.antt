@@ -48,7 +48,7 @@ sorted_on sorted new events i d whole n h is so_far =
     ∙ ap (λ es. events_of sorted n ++ own_events n es) (sym (drop_more events i d h))
     ∙ so_far
 
--- before any event is sorted, no faction has one
+-- before any event is sorted, no faction has one in the map m
 pub none_sorted : (m : FinMap nat_cmp (List Event)) → m ≡ empty → (n : ℕ) → events_of m n ≡ []
 none_sorted m h n =
     ap (λ (m : FinMap nat_cmp (List Event)). events_of m n) h ∙ ap (λ o. unwrap_or o []) (get-empty nat_cmp n)
@@ -65,9 +65,9 @@ own_again n (e ∷ es) = by_test (e.faction == n) refl (own_again n es)
         ∙ ap (λ (more : List Event). e ∷ more) rest
     by_test false is rest = rest
 
--- a report of faction `n` made from its own events is the one made from all events: where a call answers Ok and stores
--- the first, campaign `d` is `c` with the second. `own` are its own events, and `lines` are equal to `faults`, the
--- faulty lines of its mailing.
+-- a report of faction `n` made from its own events is the one made from all events: where a call answers Ok (r) and
+-- stores the first, campaign `d` is `c` with the second. `own` are its own events, and `lines` are equal to `faults`,
+-- the faulty lines of its mailing.
 pub stored_own : {A E : Type 0} (w : WorldValue) (c d : CampaignValue) (n : ℕ) (faults lines : List FaultyLine) (events own : List Event) (r : Result A E)
     → lines ≡ faults → own ≡ own_events n events → OnOk r (d ≡ reported_with w c n lines own)
     → OnOk r (d ≡ reported_with w c n faults events)

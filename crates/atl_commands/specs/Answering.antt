@@ -91,7 +91,7 @@ pub record AnswersOrFails {S : Type 0} (g : Ghosts S) (w : WorldValue) (before :
   pub err : OnErr result (CommandLeavesAfterFault g w before.value old command new)
   -- a fault has its cause (`HasCause`)
   pub cause : IfErr result (λ fault. HasCause g (OfCommand w before.value command) old new (fault_of_write fault))
-  -- what any command leaves of the connection, the disk and other tables (`LeavesIdle`)
+  -- the connection is in no transaction, no failure of the disk is forgotten, and other tables stay (`LeavesIdle`)
   pub leaves : LeavesIdle g old new
   -- if nothing of the campaign was marked before, nothing is after an answer
   pub unmarked : before.marks ≡ no_marks → OnOk result (after.marks ≡ no_marks)

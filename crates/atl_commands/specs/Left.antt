@@ -12,7 +12,7 @@ use Rattle.atl_store.specs.Keeps.{LeavesAfterFault, Stores}
 -- that is good too. `s` is the connection's state after the command, `text` the world text in the tables, and `faults`
 -- the number of the disk's failures before the command.
 pub record LeavesGood (w : WorldValue) (faults : ℕ) (s : State) (text : List ℕ) (before after : CampaignValue) : Type 0 where
-  -- what a write leaves after a fault (`LeavesAfterFault`)
+  -- while the connection is open, its tables hold `before`; only a new failure of the disk shuts it
   pub tables : LeavesAfterFault faults s text before after
   -- the campaign `before` is good
   pub good : IsGood w before

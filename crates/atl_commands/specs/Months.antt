@@ -19,7 +19,7 @@ use Rattle.atl_commands.specs.declared.command.Answer.TheVariants.{MonthDone}
 use Rattle.atl_commands.specs.Closing.{closed, faults_of, read_of, readings, reported_to}
 use Rattle.atl_commands.specs.Step.{step}
 
--- A part of the mail is read: these mailings and faulty lines, followed by those of the unread `rest`, are those of the
+-- Some of the mail is read: these mailings and faulty lines, followed by those of the unread `rest`, are those of the
 -- whole mail. Each of the mailings was read with the world, and each text in `rest` is a mailing of its faction.
 abbrev pub ReadSoFar : WorldValue → CampaignValue → List Mailing → FinMap nat_cmp (List FaultyLine) → List (ℕ × List ℕ) → Type 0
 ReadSoFar w c mailings faults rest =
@@ -52,11 +52,7 @@ reported_to_all w c outcome =
 -- Closing this month is not refused: `step` makes the campaign of `closed` and answers MonthDone, the month limit isn't
 -- reached, and there is one word for each region of a valid world.
 pub record MayClose (w : WorldValue) (c : CampaignValue) (month : ℕ) (pass words : List ℕ) : Type 0 where
-  -- `step` closes the month and answers MonthDone
   pub step_is : step w c (Close month pass words) ≡ (closed w c words, MonthDone month)
-  -- the number of the month last closed is below that of the last month that can be closed
   pub month_left : c.month < last_month
-  -- there is one word of the dice for each region of the world
   pub dice : length words ≡ len w.regions
-  -- the world is valid (`IsWorld`)
   pub world : IsWorld w

@@ -142,15 +142,13 @@ pub record RunsAll {S : Type 0} (g : Ghosts S) (old : ServiceValue S) (commands 
   pub follows : FollowsAt g old commands answers new old.campaign
   -- each command was run by itself, in the service that the one before it left (`RunOneByOne`)
   pub each : RunOneByOne g old commands answers new
-  -- a disk that isn't clean stays so, no failure of it is forgotten, and reads that are compared with digests stay so
-  -- (`IsLater`)
+  -- a disk that isn't clean stays so, no failure is forgotten, and reads compared with digests stay so (`IsLater`)
   pub later : IsLater (state g old.conn) (state g new.conn)
 
 -- The main theorem, for a list of commands from campaign `c` on: answers and campaign are those of `run_of`. If the
 -- disk has been clean so far, the tables hold exactly the rows of this campaign and of the world text `text`.
 pub record Headline {S : Type 0} (g : Ghosts S) (text : List ℕ) (w : WorldValue) (c : CampaignValue)
     (commands : List Command) (answers : List Answer) (new : ServiceValue S) : Type 0 where
-  -- the answers are those of `run_of`
   pub answers_are : answers ≡ (run_of w c commands).1
   -- the service is open with the campaign that `run_of` ends with
   pub campaign_is : new.campaign ≡ Some (run_of w c commands).0
@@ -168,7 +166,6 @@ pub record Interrupted {S : Type 0} (g : Ghosts S) (text : List ℕ) (faults : �
   pub command : Command
   -- the command that failed is at index `count` of the list
   pub at : slice_get commands count ≡ Some command
-  -- `count` is below the number of commands
   pub within : count < length commands
   -- the fault that the command ended in
   pub fault : Failure

@@ -38,9 +38,7 @@ text_in g conn = world_text (state g conn)
 -- While it is open and the disk is clean, its tables hold the campaign and a text of its world.
 pub record IsConsistent {S : Type 0} (g : Ghosts S) (conn : Held S)
     (w : WorldValue) (c : CampaignValue) (is_open : Bool) : Type 0 where
-  -- the connection is in no transaction
   pub idle : conn.in_transaction ≡ false
-  -- while the service is open, its campaign is good (`IsGood`)
   pub good : is_open ≡ true → IsGood w c
   -- while the service is open and the disk is clean, its tables hold its campaign
   pub tables : is_open ≡ true → HoldsCampaign g conn (text_in g conn) c
@@ -51,7 +49,6 @@ pub record IsConsistent {S : Type 0} (g : Ghosts S) (conn : Held S)
 -- changes have been written.
 pub record IsService {S : Type 0} (g : Ghosts S) (conn : Held S)
     (w : WorldValue) (c : MarkedCampaign) (is_open : Bool) : Type 0 where
-  -- the service is consistent (`IsConsistent`)
   pub consistent : IsConsistent g conn w c.value is_open
   -- while the service is open, nothing of its campaign is marked
   pub unmarked : is_open ≡ true → c.marks ≡ no_marks

@@ -27,8 +27,8 @@ use Rattle.atl_commands.specs.declared.command.Fault.TheVariants as faults
 abbrev pub reported : WorldValue → CampaignValue → ℕ → CampaignValue
 reported w c faction = reported_with w c faction [] []
 
--- the campaign and answer for a result of `join_of`: joined with its first report stored; or the campaign as it was,
--- refused or out of memory
+-- The campaign and answer for a result of `join_of`: the joined campaign with the faction's first report, and Joined;
+-- or the campaign as it was, refused as NameTaken or Full, or with the fault Memory.
 abbrev pub joined_with : WorldValue → CampaignValue → Result (CampaignValue × (ℕ × ℕ)) JoinFault → CampaignValue × Answer
 joined_with w c (Ok (after, (faction, unit))) = (reported w after faction, Joined faction unit)
 joined_with w c (Err NameTaken) = (c, Refused why.NameTaken)
@@ -79,7 +79,8 @@ closed_by w c month pass words =
     else (if not (length words == len w.regions) then (c, Refused why.WrongDice)
     else (closed w c words, MonthDone month))))
 
--- the campaign after one command, and its answer; a report, a refusal and a fault leave the campaign as it is
+-- The campaign after one command, and its answer. A join is refused as BadName, else as BadPassText, else as `join_of`
+-- refuses it. A report, a refusal and a fault leave the campaign as it is.
 unfoldable pub step : WorldValue → CampaignValue → Command → CampaignValue × Answer
 step w c (Join name pass word) =
     if not (name_ok name) then (c, Refused why.BadName)

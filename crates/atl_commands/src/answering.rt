@@ -18,7 +18,7 @@ use atl_world::{Sequence, Text, World, name_ok, pass_ok};
 use sqlite::{Alter, Connection};
 use std::alloc::{AllocError, Global};
 
-/// The commit is the last call that can fail.
+/// Refuses a join, or makes it and writes it. The commit is the last call that can fail.
 fn join<S: Alter>(
     alloc: Global,
     world: &World,
@@ -99,8 +99,8 @@ impl From<MailFault> for MailError {
     }
 }
 
-/// The refusals come in this order: NoFaction, WrongPass, Gone, then TooLong, NoHeader or BadHeader
-/// of reading the text, WrongFaction.
+/// The mailing as read, if it may be stored. The refusals come in this order: NoFaction, WrongPass,
+/// Gone, then TooLong, NoHeader or BadHeader of reading the text, WrongFaction.
 #[tactic(auto, unfolding(crate::specs::Step::step))]
 fn mailing_to_keep(
     alloc: Global,
@@ -134,7 +134,7 @@ fn mailing_to_keep(
     Ok(mailing)
 }
 
-/// The commit is the last call that can fail.
+/// Refuses a mailing, or stores it and writes it. The commit is the last call that can fail.
 fn mail<S: Alter>(
     alloc: Global,
     world: &World,
@@ -184,7 +184,7 @@ fn report(
     Ok(Answer::Text(text))
 }
 
-/// After an Err the campaign in memory may be changed in part, or lost.
+/// Answers one command. After an Err the campaign in memory may be changed in part, or lost.
 pub(crate) fn answer_to<S: Alter>(
     alloc: Global,
     world: &World,

@@ -99,7 +99,7 @@ fn turn_month(
     })
 }
 
-/// The refusals come in this order: WrongPass, WrongMonth, MonthLimit, WrongDice.
+/// Refuses to close with the first that applies of WrongPass, WrongMonth, MonthLimit and WrongDice.
 #[tactic(auto, unfolding(crate::specs::Step::step))]
 fn check_close(
     world: &World,
@@ -129,7 +129,7 @@ fn check_close(
     Ok(())
 }
 
-/// The commit is the last call that can fail.
+/// Closes the month and writes it, or refuses to. The commit is the last call that can fail.
 pub(crate) fn close<S: Alter>(
     alloc: Global,
     world: &World,

@@ -111,8 +111,8 @@ fn report_to_each(
     Ok(())
 }
 
-/// The structures and the units of each region and the events of each faction are listed once for
-/// all reports.
+/// Stores a new report for each faction of the outcome. The structures and units of each region and
+/// the events of each faction are listed once for all of them.
 pub(crate) fn report_to_all(
     alloc: Global,
     world: &World,

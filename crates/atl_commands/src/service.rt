@@ -83,11 +83,11 @@ impl<S: Alter> Service<S> {
 
     /// Runs one command and returns its answer. A command that is refused, or answered with a
     /// report, changes nothing. If the disk is clean, fault Store means that a call of the write
-    /// gave another error than out of memory. Fault Memory means that one ran out of memory, or
-    /// that memory ran out before the database was asked to write. If the disk is clean, the tables
-    /// are as before after either fault, while the connection is open. A crash then leaves the
-    /// campaign before the command or after it, and a good one. After a fault the service is
-    /// closed, whatever the disk: every later command is answered Closed and changes nothing. See
+    /// gave another error than out of memory, and fault Memory that one ran out of memory, or that
+    /// memory ran out before the database was asked to write. If the disk is clean, the tables are
+    /// as before after either fault, while the connection is open. A crash then leaves the campaign
+    /// before the command or after it, and a good one. After a fault the service is closed,
+    /// whatever the disk: every later command is answered Closed and changes nothing. See
     /// docs/RULES.md, "Joining", "Mail", "Closing a month", "Reports" and "Refusals and faults".
     pub fn run(&mut self, command: &Command) -> Answer
         ensures runs { Runs S.Store self.old command.now result self.new }
@@ -166,7 +166,8 @@ impl<S: Alter> Service<S> {
         Some(books_text(self.alloc, &self.world, campaign))
     }
 
-    /// The world of the campaign, as it was founded or upgraded; also after a fault.
+    /// The world of the campaign, as it was founded or upgraded; also after a fault. While the
+    /// service is open and the disk is clean, the world text in its tables reads as this world.
     pub fn world(&self) -> &World
         ensures value { result.now ≡ self.now.world }
         ensures text { HasCleanDisk (state S.Store self.now.conn) → IsSome self.now.campaign

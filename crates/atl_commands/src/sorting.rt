@@ -7,7 +7,7 @@ use atl_campaign::Event;
 use atl_world::{Numbered, Sequence};
 use std::alloc::{AllocError, Global};
 
-/// If memory runs out, the lists are no longer usable.
+/// Adds an event to its faction's list. If memory runs out, the lists are no longer usable.
 fn add_event(
     alloc: Global,
     sorted: &mut Numbered<Sequence<Event>>,

@@ -68,8 +68,7 @@ module _ (f : ℕ → ℕ) where
       for_longer_list rest false false some other =
           ap (λ k. unwrap_or (cond k (Some (f n)) (find nat_cmp q (listed ns))) 0) other ∙ rest
 
-  -- each number has in the map of `amounts_for` the amount that f gives it, if f gives 0 to each number outside of the
-  -- list
+  -- number q has in the map of `amounts_for` the amount that f gives it, if q is in the list, or f gives it 0
   pub as_said : (ns : List ℕ) (q : ℕ) → (list_any (eq_by_cmp nat_cmp q) ns ≡ false → f q ≡ 0)
       → amount_of (amounts_for f ns) q ≡ f q
   unfolding amounts_for
@@ -81,7 +80,7 @@ module _ (f : ℕ → ℕ) where
       for_listed_or_not true is = refl
       for_listed_or_not false is = sym (others is)
 
--- two maps with the same amount of each number are equal, if each amount that they list is at least 1
+-- two maps m and o with the same amount of each number are equal, if each amount that they list is at least 1
 pub same_amounts : (m o : FinMap nat_cmp ℕ) → Every (λ n amount. 1 ≤ amount) m → Every (λ n amount. 1 ≤ amount) o
     → ((n : ℕ) → amount_of m n ≡ amount_of o n) → m ≡ o
 same_amounts m o some also same =

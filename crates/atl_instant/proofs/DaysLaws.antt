@@ -91,7 +91,7 @@ none_stay d g e = omega (arith, e)
 none_come : (d g : ℕ) → d ≡ 0 → g ≡ 0 → d + g ≡ 0
 none_come d g e f = omega (arith, e, f)
 
--- of a skill in which a unit has no days, none go with n of its men
+-- of a skill s in which a unit has no days, none go with n of its men
 pub none_go : (n : ℕ) (h : HoldingValue) (s : ℕ) → amount_of h.days s ≡ 0 → going_of n h s ≡ 0
 none_go n h s none = ap (days_going n h.men) none ∙ zero_days_going n h.men
 

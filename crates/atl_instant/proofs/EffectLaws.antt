@@ -1,8 +1,8 @@
 -- Laws of the effect of one order that books nothing: what it keeps, above all where something goes from one unit to
 -- another. Further laws say what follows for a phase that carries out such orders one by one. A unit is no worse off
--- (`IsNoWorse`) with the same faction, place, name and guard flag, and no less men, money, goods and days. A unit may
--- have (`MayHave`) what is within the limits and of the world, under a name that keeps the name rule. In the laws an
--- order makes campaign d of c, and `holds` is a condition that orders keep true.
+-- (`IsNoWorse`) with the same faction, region, structure, name and guard flag, and no fewer men, no less money, goods
+-- or days. A unit may have (`MayHave`) what is within the limits and of the world, under a name that keeps the name
+-- rule. In the laws an order makes campaign d of c, and `holds` is a condition that orders keep true.
 use Rattle.std.proofs.Common.{◌≡◌, ◌≢◌, ◌==◌, ℕ, ◌+◌, Bool, true, false, Option, Some, None, refl, sym, ap, subst, ◌∙◌, inl, inr, arith}
 use Rattle.std.specs.Prelude.{IfSome, if◌then◌else◌}
 use Rattle.std.proofs.lemmas.Bool.{cases_eq}
@@ -46,17 +46,18 @@ pub record IsLeftAlone (f : ℕ) (before after : Unit) : Type 0 where
   pub better : IsNoWorse before after
   pub men : f ≢ before.faction → after.holding.men ≡ before.holding.men
 
--- What an order of faction f for unit n keeps, as it makes campaign d of c: each unit but n is left alone
--- (`IsLeftAlone`). Where `holds` is true of c and the order fits the world (`fit`), `holds` is true of d, and month,
--- books and balance are kept.
+-- What an order of faction f for unit n keeps, as it makes campaign d of c; `fit` says that the order fits the world.
 pub record OrderKeeps (holds : Condition) (fit : Type 0) (w : WorldValue) (c : CampaignValue) (n f : ℕ) (d : CampaignValue) : Type 0 where
+  -- if `holds` is true of c and the order fits, `holds` is true of d, month and balance stay, and nothing is booked
   pub well : holds w c → fit → StepsWell holds nothing_remaining w c d
+  -- each unit but n is still there, and left alone (`IsLeftAlone`)
   pub others : (k : ℕ) (v : Unit) → get c.units k ≡ Some v → k ≢ n → IsStillThere (IsLeftAlone f) d k v
 
 -- an order of faction f for unit n, which makes campaign d of c; `holds` is what it keeps true, if it fits the world
 -- (`fit`)
 module _ {holds : Condition} {fit : Type 0} (w : WorldValue) (c : CampaignValue) (n f : ℕ) where
-  -- an order that changes no unit but n, and keeps `holds` and the books (`StepsWell`), keeps what `OrderKeeps` says
+  -- if an order changes no unit but n, and keeps `holds`, month, books and balance where it fits, it leaves the other
+  -- units alone besides (`OrderKeeps`)
   pub keeps_others : (d : CampaignValue) → (holds w c → fit → StepsWell holds nothing_remaining w c d)
       → ((k : ℕ) → k ≢ n → get d.units k ≡ get c.units k) → OrderKeeps holds fit w c n f d
   keeps_others d well stay = record {
@@ -64,12 +65,12 @@ module _ {holds : Condition} {fit : Type 0} (w : WorldValue) (c : CampaignValue)
     others = λ k v there apart. record { unit = v; there = stay k apart ∙ there; is_unaffected = record { better = no_worse v; men = λ other. refl } };
   }
 
-  -- an order that changes nothing keeps what `OrderKeeps` says
+  -- an order that changes nothing leaves all units alone, and keeps `holds`, month, books and balance (`OrderKeeps`)
   pub keeps_all : OrderKeeps holds fit w c n f c
   keeps_all = keeps_others c (λ h fits. well_same w c h) (λ k apart. refl)
 
   -- an order, with a fault or without, keeps `holds`, the books and the other units (`OrderKeeps`), if its effect
-  -- without a fault does
+  -- without a fault, campaign d and outcome o, does
   pub keeps_unless : (fault : Option EventFault) (d : CampaignValue) (o : Outcome)
       → (fault ≡ None → OrderKeeps holds fit w c n f d) → OrderKeeps holds fit w c n f (fault_or c fault (d, o)).0
   keeps_unless (Some fault) d o keeps = keeps_all

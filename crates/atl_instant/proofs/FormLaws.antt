@@ -265,7 +265,7 @@ module _ (w : WorldValue) (c : CampaignValue) (early : IsEarly w c) where
 
 -- ---- orders apart from the month
 
--- copies of orders of FORM, carried out one after another, make what the orders themselves make
+-- copies of the orders `ts` of FORM, carried out one after another on the pair p, make what the orders themselves make
 pub formed_by_copy : (p : CampaignValue × MonthValue) (ts : List Task)
     → fold form_by_copy p (map forming_of ts) ≡ fold form_order p ts
 formed_by_copy p [] = refl

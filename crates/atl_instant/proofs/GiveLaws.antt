@@ -1,6 +1,7 @@
 -- Laws of GIVE and PAY: the campaign stays early, its books balanced, and no unit but the giver is worse off. A unit is
--- no worse off (`IsNoWorse`) with the same faction, place, name and guard flag, and no less men, money, goods and days.
--- A unit may have (`MayHave`) what is within the limits and of the world, under a name that keeps the name rule.
+-- no worse off (`IsNoWorse`) with the same faction, region, structure, name and guard flag, and no fewer men, no less
+-- money, goods or days. A unit may have (`MayHave`) what is within the limits and of the world, under a name that keeps
+-- the name rule.
 use Rattle.std.proofs.Common.{◌≡◌, ◌≢◌, ◌==◌, ℕ, ◌+◌, ◌-◌, ◌≤◌, ◌<◌, Bool, true, false, cond, not, [], ◌∷◌, length, Option, Some, None, refl, sym, ap, subst, ◌∙◌, arith}
 use Rattle.std.specs.Prelude.{⊤, IfSome, nat_lt}
 use Rattle.std.specs.Ordering.{nat_cmp, eq_by_cmp}
@@ -173,8 +174,9 @@ module _ {fit : Type 0} (w : WorldValue) (c : CampaignValue) (from to : ℕ) (gi
 
 -- ---- the phase
 
--- Each order of GIVE or PAY for a unit of its writer's faction leaves no other unit worse off. If it can be read with
--- the world, it keeps an early campaign early, its month and its balance, and books nothing (`StepKeeps`).
+-- Each order of GIVE or PAY for a unit of its writer's faction leaves other units no worse off, and those of other
+-- factions exactly their men. If it can be read with the world, it keeps an early campaign early, its month and its
+-- balance, and books nothing (`StepKeeps`).
 pub give_keeps : StepKeeps IsEarly give_step
 give_keeps w a c t x own = by_operands t.order_value.operands
   where

@@ -1,7 +1,7 @@
 -- Laws of a unit with another name or guard flag, and of GUARD 1: the campaign stays steady, and the guards of each
--- region stay of one faction. A unit is no worse off (`IsNoWorse`) with the same faction, place, name and guard flag,
--- and no less men, money, goods and days. A unit may have (`MayHave`) what is within the limits and of the world, under
--- a name that keeps the name rule. In the laws campaign c is before a change, and d after it.
+-- region stay of one faction. A unit is no worse off (`IsNoWorse`) with the same faction, region, structure, name and
+-- guard flag, and no fewer men, no less money, goods or days. A unit may have (`MayHave`) what is within the limits and
+-- of the world, under a name that keeps the name rule. In the laws campaign c is before a change, and d after it.
 use Rattle.std.proofs.Common.{◌≡◌, ◌==◌, ℕ, ◌+◌, Bool, true, false, not, ◌&&◌, ◌||◌, List, [], ◌∷◌, Some, None, refl, sym, ap, subst, ◌∙◌, inl, inr, arith}
 use Rattle.std.specs.Prelude.{IfSome, IsTrue, nat_lt}
 use Rattle.std.specs.List.{list_any}
@@ -159,8 +159,9 @@ guard_kept w c n u is =
 
 -- ---- the phase
 
--- Each order of GUARD 1 for a unit of its writer's faction leaves no other unit worse off. If it can be read with the
--- world, it keeps a steady campaign steady, its month and its balance, and books nothing (`StepKeeps`).
+-- Each order of GUARD 1 for a unit of its writer's faction leaves other units no worse off, and those of other factions
+-- exactly their men. If it can be read with the world, it keeps a steady campaign steady, its month and its balance,
+-- and books nothing (`StepKeeps`).
 pub guard_keeps : StepKeeps IsSteady guard_step
 guard_keeps w a c t x own = by_operands t.order_value.operands
   where

@@ -1,6 +1,6 @@
 -- Laws of NAME and GUARD 0: the campaign stays early, and a unit is no worse off unless its own faction wrote one of
--- these orders for it. A unit is no worse off (`IsNoWorse`) with the same faction, place, name and guard flag, and no
--- less men, money, goods and days.
+-- these orders for it. A unit is no worse off (`IsNoWorse`) with the same faction, region, structure, name and guard
+-- flag, and no fewer men, no less money, goods or days.
 use Rattle.std.proofs.Common.{◌≡◌, ◌≢◌, ◌==◌, ℕ, Bool, true, false, List, Some, None, refl, sym, subst}
 use Rattle.std.specs.Prelude.{IfSome, IsTrue, if◌then◌else◌}
 use Rattle.std.specs.FinMap.{get}
@@ -105,8 +105,9 @@ module _ (fit : Type 0) (w : WorldValue) (c : CampaignValue) (n : ℕ) (u : Unit
   named kinds.Building name ok = structure_named u.structure false name ok
   named kinds.Ship name ok = structure_named u.structure true name ok
 
--- Each order of NAME or GUARD 0 for a unit of its writer's faction leaves no other unit worse off. If it can be read
--- with the world, it keeps an early campaign early, its month and its balance, and books nothing (`StepKeeps`).
+-- Each order of NAME or GUARD 0 for a unit of its writer's faction leaves other units no worse off, and those of other
+-- factions exactly their men. If it can be read with the world, it keeps an early campaign early, its month and its
+-- balance, and books nothing (`StepKeeps`).
 pub name_keeps : StepKeeps IsEarly name_step
 name_keeps w a c t x own = by_operands t.order_value.operands
   where

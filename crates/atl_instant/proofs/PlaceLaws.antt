@@ -1,6 +1,6 @@
 -- Laws of LEAVE, ENTER and PROMOTE: the campaign stays early, and a unit is no worse off unless its own faction wrote
--- one of these orders for it. A unit is no worse off (`IsNoWorse`) with the same faction, place, name and guard flag,
--- and no less men, money, goods and days.
+-- one of these orders for it. A unit is no worse off (`IsNoWorse`) with the same faction, region, structure, name and
+-- guard flag, and no fewer men, no less money, goods or days.
 use Rattle.std.proofs.Common.{◌≡◌, ◌≢◌, ◌==◌, ℕ, Bool, true, false, not, [], ◌∷◌, Option, Some, None, refl, sym, ap, ◌∙◌, arith}
 use Rattle.std.proofs.lemmas.Bool.{true≢false}
 use Rattle.std.specs.Prelude.{IfSome, if◌then◌else◌}
@@ -116,8 +116,9 @@ module _ (fit : Type 0) (w : WorldValue) (c : CampaignValue) (n : ℕ) (u : Unit
 
 -- ---- the phase
 
--- Each order of LEAVE, ENTER or PROMOTE for a unit of its writer's faction leaves no other unit worse off. If it can be
--- read with the world, it keeps an early campaign early, its month and its balance, and books nothing (`StepKeeps`).
+-- Each order of LEAVE, ENTER or PROMOTE for a unit of its writer's faction leaves other units no worse off, and those
+-- of other factions exactly their men. If it can be read with the world, it keeps an early campaign early, its month
+-- and its balance, and books nothing (`StepKeeps`).
 pub place_keeps : StepKeeps IsEarly place_step
 place_keeps w a c t x own = by_operands t.order_value.operands
   where

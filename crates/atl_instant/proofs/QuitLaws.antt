@@ -1,8 +1,8 @@
 -- Laws of QUIT: units leave, what they had is booked as gone, and structures get other owners; the campaign stays
 -- steady. A unit is no worse off, unless its faction quits by an order for a unit that was its own as the phase began.
--- A unit is no worse off (`IsNoWorse`) with the same faction, place, name and guard flag, and no less men, money, goods
--- and days. In the laws e is an entry of the books, s and t are things, and h is what a unit holds. `es` and `xs` list
--- items with their amounts, and i is an index within `xs`.
+-- A unit is no worse off (`IsNoWorse`) with the same faction, region, structure, name and guard flag, and no fewer men,
+-- no less money, goods or days. In the laws e is an entry of the books, s and t are things, and h is what a unit holds.
+-- `es` and `xs` list items with their amounts, and i is an index within `xs`.
 use Rattle.std.proofs.Common.{◌≡◌, ◌≢◌, ◌==◌, ℕ, ◌+◌, ◌*◌, ◌≤◌, ◌<◌, not, Bool, true, false, cond, List, [], ◌∷◌, length, drop, get_or, Option, Some, None, refl, sym, ap, subst, ◌∙◌, inl, inr, arith}
 use Rattle.std.specs.Prelude.{ℤ, pos, neg_ℤ, ◌+ℤ◌, IfSome, fold, unwrap_or, if◌then◌else◌}
 use Rattle.std.proofs.lemmas.Int.{ints}
@@ -212,11 +212,12 @@ moves_what_leaves h e s =
 
 -- ---- a campaign in which amounts of things are booked as gone
 
--- The campaign d is c with `gone` of each thing booked as gone, and only the books differ. Campaign d is steady, what
--- the books have of a thing falls by `gone`, and no amount of the books moves further than `book_bound`.
+-- Campaign d is c with `gone` of each thing booked as gone: it is steady, and only the books differ.
 pub record BooksAsGone (w : WorldValue) (gone : Thing → ℕ) (book_bound : BookBound) (c d : CampaignValue) : Type 0 where
   pub steady : IsSteady w d
+  -- what the books have of each thing falls by `gone` of it
   pub sum_falls : (s : Thing) → booked c.books s ≡ booked d.books s +ℤ pos (gone s)
+  -- no amount of the books moves further than its bound
   pub near : (e : BooksEntry) (s : Thing) → IsNear (book_bound e s) (amount_in c.books e s) (amount_in d.books e s)
   pub same : d ≡ record c { books = d.books }
 
@@ -280,8 +281,8 @@ books_all w c h known steady =
 
 -- ---- what the code books, and marks
 
--- if an amount is booked as gone, and this amount of the books is marked, then no mark is lost and all that changed is
--- marked
+-- if an amount is booked as gone, which makes d of c, and this amount of the books is marked, then no mark is lost and
+-- all that changed is marked
 pub marks-loss : (c d : MarkedCampaign) (t : Thing) (amount : ℕ) → d.value ≡ with_loss c.value t amount
     → d.marks ≡ mark_amount c (loss_entry t) t → MarksChanges c d
 marks-loss c d t amount what marks =
@@ -332,7 +333,7 @@ pub known_held : (w : WorldValue) (c : CampaignValue) (n : ℕ) (u : Unit) → g
 known_held w c n u is steady =
     each-from_every (λ j a. j < length w.items) u.holding.items (steady.known.units n u is).items
 
--- books with room for what all units may lose (`quit_remaining`) have room for all that one unit has
+-- books with room for what all units may lose (`quit_remaining`) have room for all that unit n (u) has
 pub held_room : (c : CampaignValue) (n : ℕ) (u : Unit) → get c.units n ≡ Some u → HaveRoom (quit_remaining c) c
     → HaveRoom (held_moves u.holding) c
 held_room c n u is room =
@@ -443,8 +444,8 @@ leaving_keeps_others c n k apart = by_unit (get c.units n)
 
 -- ---- all units of a faction
 
--- Once the units of a list, those that are there, left one by one, a steady campaign is still steady, in its month and
--- in balance. No amount of the books moved further than what may still be booked (`quit_remaining`) fell (`StepsWell`).
+-- Once the units `ns`, those that are there, left one by one, a steady campaign is still steady, in its month and in
+-- balance. No amount of the books moved further than what may still be booked (`quit_remaining`) fell (`StepsWell`).
 pub all_left_well : (w : WorldValue) (c : CampaignValue) (ns : List ℕ) → IsSteady w c
     → StepsWell IsSteady quit_remaining w c (fold after_leaving c ns)
 all_left_well w c [] steady = well_same w c steady
@@ -452,7 +453,7 @@ all_left_well w c (n ∷ ns) steady =
     let one = left_well w c n steady in
     well_twice w c (after_leaving c n) (fold after_leaving (after_leaving c n) ns) one (all_left_well w (after_leaving c n) ns one.holds_still)
 
--- after the units of a list left one by one, each unit that isn't in the list is as it was
+-- after the units of the list `ns` left one by one, each unit k that isn't in the list is as it was
 pub all_leaving_keep_others : (c : CampaignValue) (ns : List ℕ) (k : ℕ) → ((n : ℕ) → IsListed n ns → k ≢ n)
     → get (fold after_leaving c ns).units k ≡ get c.units k
 all_leaving_keep_others c [] k apart = refl
@@ -474,8 +475,8 @@ quit_cases P c number u same leave = by_fault (quit_fault number u) refl
     by_fault (Some fault) e = same
     by_fault None e = leave (not_apart number u.faction (none_fits (not (number == u.faction)) WrongNumber [] e).0)
 
--- An order of QUIT, with a fault or without, keeps a steady campaign steady, its month and its balance. No amount of
--- the books moves further than what may still be booked (`quit_remaining`) falls (`StepsWell`).
+-- An order of QUIT with `number` for unit u, with a fault or without, keeps a steady campaign steady, its month and its
+-- balance. No amount of the books moves further than what may still be booked (`quit_remaining`) falls (`StepsWell`).
 pub quit_well : (w : WorldValue) (c : CampaignValue) (number : ℕ) (u : Unit) → IsSteady w c
     → StepsWell IsSteady quit_remaining w c (quit number c u).0
 quit_well w c number u steady =

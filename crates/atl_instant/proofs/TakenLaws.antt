@@ -142,14 +142,14 @@ guard_takes w a t of_phase fit = by_operands t.order_value.operands
 pub guard_gives : Gives (λ counts t. report_if (is_guarding t.order_value.verb && counts && sets_guard t.order_value.operands) t) guard_spec.meaning
 guard_gives = gives_by_orders guard_step is_guarding (λ t. sets_guard t.order_value.operands) guard_takes
 
--- operands with the shape of a verb of the phase of GUARD 1 have the shape of GUARD, its only verb
+-- operands o with the shape of a verb v of the phase of GUARD 1 have the shape of GUARD, its only verb
 pub guard_shape : (v : Verb) (o : OperandsValue) → is_guarding v ≡ true → Fits v o → Fits verbs.Guard o
 guard_shape verbs.Guard o of_phase fits = fits
 guard_shape v o of_phase fits = cc
 
 -- ---- FORM
 
--- operands with the shape of a verb of the phase of FORM have the shape of FORM, its only verb
+-- operands o with the shape of a verb v of the phase of FORM have the shape of FORM, its only verb
 pub form_shape : (v : Verb) (o : OperandsValue) → is_forming v ≡ true → Fits v o → Fits verbs.Form o
 form_shape verbs.Form o of_phase fits = fits
 form_shape v o of_phase fits = cc

@@ -1,6 +1,7 @@
 -- Laws of TRANSFER: the campaign stays early, its books balanced, and no unit but the sender is worse off. A unit is no
--- worse off (`IsNoWorse`) with the same faction, place, name and guard flag, and no less men, money, goods and days. A
--- unit may have (`MayHave`) what is within the limits and of the world, under a name that keeps the name rule.
+-- worse off (`IsNoWorse`) with the same faction, region, structure, name and guard flag, and no fewer men, no less
+-- money, goods or days. A unit may have (`MayHave`) what is within the limits and of the world, under a name that keeps
+-- the name rule.
 use Rattle.std.proofs.Common.{◌≡◌, ◌≢◌, ◌==◌, ℕ, ◌+◌, ◌-◌, ◌*◌, ◌/◌, ◌≤◌, ◌<◌, Bool, true, false, not, [], ◌∷◌, ◌++◌, ◌⊎◌, length, Option, Some, None, refl, sym, subst, inl, inr, arith}
 use Rattle.std.specs.Prelude.{IfSome, nat_lt, unwrap_or}
 use Rattle.std.proofs.lemmas.Bool.Decides.{nat_tests}
@@ -124,8 +125,8 @@ known_skill w h s may some = by_option (get h.days s) refl some
 days_may : (w : WorldValue) (h : HoldingValue) (s : ℕ) → MayHave w h → amount_of h.days s ≤ most_days * h.men
 days_may w h s may = days_within h.days (most_days * h.men) s may.days
 
--- a unit with at least n men may have (`MayHave`) what it holds after n of them went, if it may have what it holds
--- before
+-- a unit with at least n men, which holds h, may have (`MayHave`) what it holds after n of them went, if it may have
+-- what it holds before
 pub may_have_fewer : (w : WorldValue) (n : ℕ) (h : HoldingValue) → n ≤ h.men → MayHave w h
     → MayHave w (after_sending n h)
 may_have_fewer w n h fewer may = record {
@@ -227,8 +228,9 @@ module _ {fit : Type 0} (w : WorldValue) (c : CampaignValue) (from to n : ℕ) (
 
 -- ---- the phase
 
--- Each order of TRANSFER for a unit of its writer's faction leaves no other unit worse off. If it can be read with the
--- world, it keeps an early campaign early, its month and its balance, and books nothing (`StepKeeps`).
+-- Each order of TRANSFER for a unit of its writer's faction leaves other units no worse off, and those of other
+-- factions exactly their men. If it can be read with the world, it keeps an early campaign early, its month and its
+-- balance, and books nothing (`StepKeeps`).
 pub transfer_keeps : StepKeeps IsEarly transfer_step
 transfer_keeps w a c t x own = by_operands t.order_value.operands
   where

@@ -78,7 +78,7 @@ with_form_result m t (c, outcome) = (
   },
 )
 
--- the campaign and the month after one order of FORM
+-- the campaign and the month after one order of FORM: with its event, and with its alias if a unit was formed
 abbrev pub form_order : CampaignValue × MonthValue → Task → CampaignValue × MonthValue
 form_order (c, m) t = with_form_result m t (form_by c t.faction t.unit)
 
@@ -90,6 +90,6 @@ form_meaning w c m = fold form_order (c, m) (orders_of is_forming ByFaction m.al
 abbrev pub form_keeps : Frame
 form_keeps w m before after = Every (λ n u. get after.units n ≡ Some u) before.units
 
--- the specification of the phase of FORM, which moves no amount of the books
+-- the specification of the phase of FORM: it moves no amount of the books, and each unit that was there stays as it was
 abbrev pub form_spec : PhaseSpec
 form_spec = spec_without_books form_meaning form_keeps

@@ -1,6 +1,6 @@
--- GIVE and PAY: a unit gives items or money to another. See docs/RULES.md, "Giving".
--- A unit is no worse off (`IsNoWorse`) with the same faction, place, name and guard flag, and no less men, money, goods
--- and days.
+-- GIVE and PAY: a unit gives items or money to another. See docs/RULES.md, "Giving". A unit is no worse off
+-- (`IsNoWorse`) with the same faction, region, structure, name and guard flag, and no fewer men, no less money, goods
+-- or days.
 use Rattle.std.specs.Prelude.{ℕ, ◌+◌, ◌-◌, ◌==◌, ◌&&◌, not, nat_lt, Bool, true, false, [], ◌∷◌, Option, Some, None, if◌then◌else◌}
 use Rattle.std.specs.FinMap.{get}
 use Rattle.atl_lines.specs.declared.order.Operands.TheVariants as operands
@@ -69,7 +69,7 @@ give_to c from to gift n u receiver =
     fault_or c (give_fault gift n (to == from) u receiver) (after_gift c from to gift n (Some u) receiver, Done n)
 
 -- the effect, Done with n, of an order by which unit `from` gives n of the gift, money or an item, to unit `to`; with a
--- fault nothing changes
+-- fault (`give_fault`) nothing changes
 unfoldable pub give : (from to : ℕ) → Gift → (n : ℕ) → OrderEffect
 give from to gift n c u = give_to c from to gift n u (get c.units to)
 

@@ -1,6 +1,6 @@
--- NAME and GUARD 0: units give names, and stop guarding. See docs/RULES.md, "Name".
--- A unit is no worse off (`IsNoWorse`) with the same faction, place, name and guard flag, and no less men, money, goods
--- and days.
+-- NAME and GUARD 0: units give names, and stop guarding. See docs/RULES.md, "Name". A unit is no worse off
+-- (`IsNoWorse`) with the same faction, region, structure, name and guard flag, and no fewer men, no less money, goods
+-- or days.
 use Rattle.std.specs.Prelude.{◌≢◌, ℕ, ◌==◌, Bool, true, false, not, List, [], ◌∷◌, Option, Some, None, if◌then◌else◌}
 use Rattle.std.specs.FinMap.{get}
 use Rattle.atl_world.specs.Worlds.{WorldValue}
@@ -52,7 +52,8 @@ name_result w c n f s kinds.Faction name = (with_faction_name c f name, Done 0)
 name_result w c n f s kinds.Building name = structure_name_result w c n s false name
 name_result w c n f s kinds.Ship name = structure_name_result w c n s true name
 
--- the effect of NAME, Done with 0: unit n, its faction or its structure gets the name; with a fault nothing changes
+-- The effect of NAME, Done with 0: unit n, its faction, or the structure that it is inside gets the name, as the kind
+-- of name says. The structure alone may have a fault (`structure_fault`), and then nothing changes.
 abbrev pub naming : WorldValue → (n : ℕ) → NameKind → List ℕ → OrderEffect
 naming w n what name c u = name_result w c n u.faction u.structure what name
 

@@ -1,7 +1,6 @@
--- LEAVE, ENTER and PROMOTE: units leave structures, enter them, and hand them over to other units.
--- See docs/RULES.md, "Place".
--- A unit is no worse off (`IsNoWorse`) with the same faction, place, name and guard flag, and no less men, money, goods
--- and days.
+-- LEAVE, ENTER and PROMOTE: units leave structures, enter them, and hand them over to other units. See docs/RULES.md,
+-- "Place". A unit is no worse off (`IsNoWorse`) with the same faction, region, structure, name and guard flag, and no
+-- fewer men, no less money, goods or days.
 use Rattle.std.specs.Prelude.{ℕ, ◌==◌, Bool, true, false, not, [], ◌∷◌, Option, Some, None, if◌then◌else◌}
 use Rattle.std.specs.FinMap.{get}
 use Rattle.atl_world.specs.Worlds.{WorldValue}
@@ -69,7 +68,7 @@ promote_fault c n to u = first_fault (
     ∷ (not (structure_of_unit c to == u.structure), NotHere)
     ∷ [])
 
--- the effect of PROMOTE, Done with 0: unit `to` owns the structure that n is inside; with a fault nothing changes
+-- the effect of PROMOTE, Done with 0: unit `to` owns the structure that unit n is inside; with a fault nothing changes
 unfoldable pub promote : (n to : ℕ) → OrderEffect
 promote n to c u = fault_or c (promote_fault c n to u) (with_owner c u.structure to, Done 0)
 

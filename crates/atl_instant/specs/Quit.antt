@@ -1,6 +1,6 @@
--- QUIT: a faction leaves the campaign with all its units. See docs/RULES.md, "Quitting".
--- A unit is no worse off (`IsNoWorse`) with the same faction, place, name and guard flag, and no less men, money, goods
--- and days.
+-- QUIT: a faction leaves the campaign with all its units. See docs/RULES.md, "Quitting". A unit is no worse off
+-- (`IsNoWorse`) with the same faction, region, structure, name and guard flag, and no fewer men, no less money, goods
+-- or days.
 use Rattle.std.specs.Prelude.{◌≡◌, ℕ, pos, neg_ℤ, ◌==◌, not, Bool, true, false, [], ◌∷◌, fold, Option, Some, None, if◌then◌else◌}
 use Rattle.std.specs.FinMap.{entries, get}
 use Rattle.atl_world.specs.Sums.{sum_over}
@@ -66,16 +66,17 @@ after_leaving c n = without_leaver c n (get c.units n)
 abbrev pub quit_fault : (number : ℕ) → Unit → Option EventFault
 quit_fault number u = first_fault ((not (number == u.faction), WrongNumber) ∷ [])
 
--- the effect of QUIT, Done with 0: all units of the unit's faction leave, by rising number; a fault changes nothing
+-- The effect of QUIT with a number on a unit. If it is the number of the unit's faction, all units of this faction
+-- leave, by rising number, and the outcome is Done with 0. Else the fault is WrongNumber, and nothing changes.
 unfoldable pub quit : (number : ℕ) → OrderEffect
 quit number c u = fault_or c (quit_fault number u) (fold after_leaving c (numbers_of_faction u.faction c.units), Done 0)
 
--- the effect of an order of QUIT, by its operands; None for operands of any other form
+-- the effect of an order of QUIT: that of QUIT with the number that is its operand; None for operands of any other form
 abbrev pub quit_effect : OperandsValue → Option OrderEffect
 quit_effect (operands.Number number) = Some (quit number)
 quit_effect other = None
 
--- what the phase does at one order: the effect of QUIT; None for operands of any other form
+-- what the phase does at one order: the effect of QUIT with its number; None for operands of any other form
 abbrev pub quit_step : OrderMeaning
 quit_step w aliases t = quit_effect t.order_value.operands
 
@@ -114,8 +115,9 @@ loss_under e t h = if entry_index e == entry_index (loss_entry t) then unit_amou
 abbrev pub quit_remaining : RemainingBound
 quit_remaining c e t = sum_over (λ u. loss_under e t u.holding) c.units
 
--- The specification of the phase of QUIT: its orders are carried out one by one, and all that the leaving units had is
--- booked as left and lost. Units of factions that don't quit are no worse off.
+-- The specification of the phase of QUIT: its orders are carried out one by one. The men of the leaving units are
+-- booked as left, their money and items as lost, each thing by less than 10^14. Each unit is still there and no worse
+-- off, unless its faction quits by an order for a unit that was its own as the phase began.
 abbrev pub quit_spec : PhaseSpec
 quit_spec = record {
   meaning = quit_meaning;

@@ -25,7 +25,7 @@ with_guards_of m es = fold (λ held e. with_guard_of held e.1) m es
 abbrev pub guard_map_of : CampaignValue → GuardMap
 guard_map_of c = with_guards_of empty (entries c.units)
 
--- whether a region, by its entry in the map (None: nobody guards it), is guarded by another faction than the given one
+-- whether another faction than the given one guards a region, by what the map has for the region (None: nobody guards)
 abbrev pub has_other_guard : (faction : ℕ) → Option ℕ → Bool
 has_other_guard faction None = false
 has_other_guard faction (Some holder) = not (holder == faction)

@@ -1,6 +1,5 @@
--- TRANSFER: men move from one unit to another. See docs/RULES.md, "Transferring".
--- A unit is no worse off (`IsNoWorse`) with the same faction, place, name and guard flag, and no less men, money, goods
--- and days.
+-- TRANSFER: men move from one unit to another. See docs/RULES.md, "Transferring". A unit is no worse off (`IsNoWorse`)
+-- with the same faction, region, structure, name and guard flag, and no fewer men, no less money, goods or days.
 use Rattle.std.specs.Prelude.{◌≡◌, ℕ, ◌+◌, ◌-◌, ◌*◌, ◌/◌, ◌==◌, ◌&&◌, not, nat_lt, Bool, true, false, [], ◌∷◌, ◌++◌, Option, Some, None, if◌then◌else◌}
 use Rattle.std.specs.FinMap.{get, keys}
 use Rattle.atl_lines.specs.declared.order.Operands.TheVariants as operands
@@ -45,7 +44,7 @@ staying_of n h s = amount_of h.days s - going_of n h s
 abbrev pub raised_of : (n : ℕ) → (other h : HoldingValue) → (skill : ℕ) → ℕ
 raised_of n other h s = amount_of h.days s + going_of n other s
 
--- what a unit holds after n of its men went, with their part of the days; a skill of which 0 days stay isn't listed
+-- what a unit holds after n of its men went (all, if it has fewer), with their part of the days; 0 days aren't listed
 abbrev pub after_sending : (n : ℕ) → HoldingValue → HoldingValue
 after_sending n h = record h { men = h.men - n; days = amounts_for (staying_of n h) (keys h.days) }
 

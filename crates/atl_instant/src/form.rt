@@ -130,7 +130,8 @@ fn formings(alloc: Global, month: &Month) -> Result<Vec<Forming>, AllocError>
     Ok(list)
 }
 
-/// Carries out an order, and gives the new unit its alias. With a fault nothing changes.
+/// Carries out an order, and gives the new unit its alias. With a fault nothing changes. Before it
+/// no unit has the next number.
 fn form(
     alloc: Global,
     campaign: &mut Campaign,

@@ -1,6 +1,6 @@
-//! GIVE and PAY: a unit gives items or money to another. See docs/RULES.md, "Giving".
-//! A unit is no worse off (`IsNoWorse`) with the same faction, place, name and guard flag, and no
-//! less men, money, goods and days.
+//! GIVE and PAY: a unit gives items or money to another. See docs/RULES.md, "Giving". A unit is no
+//! worse off (`IsNoWorse`) with the same faction, region, structure, name and guard flag, and no
+//! fewer men, no less money, goods or days.
 ghost use Rattle.std.specs.Prelude.{◌≡◌, ◌≢◌, ◌≤◌, ◌+◌, IfOk, OnOk, Some, true};
 ghost use Rattle.std.specs.FinMap as map;
 ghost use Rattle.std.specs.Option.{option_copied};
@@ -77,7 +77,8 @@ fn set_held(campaign: &mut Campaign, number: u32, gift: Gift, amount: u32) -> Re
     }
 }
 
-/// Nothing changes where one of the two units isn't there.
+/// Moves the amount from one unit to another, which has room for it; the giver has as much. Nothing
+/// changes where one of the two isn't there.
 fn hand_over(
     campaign: &mut Campaign,
     from: u32,

@@ -1,4 +1,5 @@
-//! GUARD 1: a unit begins to guard its region. See docs/RULES.md, "Guarding".
+//! GUARD 1: a unit begins to guard its region. `holders` says which faction guards each region. See
+//! docs/RULES.md, "Guarding".
 ghost use Rattle.std.specs.Prelude.{◌≡◌, IfOk, OnOk};
 ghost use Rattle.atl_orders.specs.Bounds.{shape_of};
 ghost use Rattle.atl_world.specs.Verbs.{row_of};

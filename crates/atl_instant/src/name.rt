@@ -1,6 +1,6 @@
-//! NAME and GUARD 0: units give names, and stop guarding. See docs/RULES.md, "Name".
-//! A unit is no worse off (`IsNoWorse`) with the same faction, place, name and guard flag, and no
-//! less men, money, goods and days.
+//! NAME and GUARD 0: units give names, and stop guarding. See docs/RULES.md, "Name". A unit is no
+//! worse off (`IsNoWorse`) with the same faction, region, structure, name and guard flag, and no
+//! fewer men, no less money, goods or days.
 ghost use Rattle.std.specs.Prelude.{◌≡◌, IfOk, IsTrue, OnOk};
 ghost use Rattle.std.specs.FinMap as map;
 ghost use Rattle.atl_world.specs.Names.{name_ok};

@@ -1,6 +1,6 @@
-//! QUIT: a faction leaves the campaign with all its units. See docs/RULES.md, "Quitting".
-//! A unit is no worse off (`IsNoWorse`) with the same faction, place, name and guard flag, and no
-//! less men, money, goods and days.
+//! QUIT: a faction leaves the campaign with all its units. See docs/RULES.md, "Quitting". A unit is
+//! no worse off (`IsNoWorse`) with the same faction, region, structure, name and guard flag, and no
+//! fewer men, no less money, goods or days.
 ghost use Rattle.std.specs.Prelude.{◌≡◌, ◌<◌, IfOk, OnOk, fold, length, true};
 ghost use Rattle.atl_records.specs.Books.{amount_in, thing_index};
 ghost use Rattle.atl_campaign.specs.Covers.{MarksChanges};
@@ -75,7 +75,7 @@ fn book_off(world: &World, campaign: &mut Campaign, men: u32, money: u32, items:
     book_items(world, campaign, items);
 }
 
-/// Where the unit isn't there, nothing changes.
+/// Books all that a unit has as gone, and removes it. Where it isn't there, nothing changes.
 #[tactic(auto, unfolding(crate::specs::Quit::after_leaving))]
 fn leave(
     alloc: Global,

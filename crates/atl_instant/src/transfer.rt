@@ -1,6 +1,6 @@
-//! TRANSFER: men move from one unit to another. See docs/RULES.md, "Transferring".
-//! A unit is no worse off (`IsNoWorse`) with the same faction, place, name and guard flag, and no
-//! less men, money, goods and days.
+//! TRANSFER: men move from one unit to another. See docs/RULES.md, "Transferring". A unit is no
+//! worse off (`IsNoWorse`) with the same faction, region, structure, name and guard flag, and no
+//! fewer men, no less money, goods or days.
 ghost use Rattle.std.specs.Prelude.{◌≡◌, ◌≢◌, ◌≤◌, ◌+◌, ◌*◌, IfOk, OnOk, Some, true};
 ghost use Rattle.std.specs.FinMap as map;
 ghost use Rattle.std.specs.Option.{option_copied};
@@ -76,7 +76,8 @@ fn days_raised(
     Ok(list)
 }
 
-/// Nothing changes where one of the two units isn't there.
+/// Moves men with their part of the days to another unit, which has room for them; the sender has
+/// as many. Nothing changes where one of the two isn't there.
 fn send(
     alloc: Global,
     campaign: &mut Campaign,

@@ -22,7 +22,7 @@ early_move = each_also (λ phase (is : KeepsPhaseLaws phase). is.moves) early_ph
 later_move : EachPhase MovesItsOwn later_phases
 later_move = each_also (λ phase (is : KeepsPhaseLaws phase). is.moves) later_phases later_are
 
--- each phase of a month moves the amounts of its own entries alone, each by less than 10^14
+-- each phase of a month moves only amounts under entries that its specification lists, and each by less than 10^14
 pub each_little : PhasesMoveLittle
 each_little = (early_move, later_move, last_move)
 

@@ -118,7 +118,7 @@ infixr 5 ◌▹◌
 ◌▹◌ : {A B : Type 0} → A → B → A × B
 one ▹ others = (one, others)
 
--- each phase from FORM to RECRUIT keeps both laws (`KeepsPhaseLaws`)
+-- each phase from FORM to RECRUIT moves its own entries alone, and leaves such units their items and men
 pub early_are : EachPhase KeepsPhaseLaws early_phases
 early_are =
     keeps_phase_laws form_spec (moves_nothing_alone no_moved_entries) form_leaves
@@ -132,7 +132,7 @@ early_are =
     ▹ keeps_phase_laws recruit_spec (money_alone entries.Recruiting) recruit_leaves
     ▹ tt
 
--- each phase from GUARD 1 to PRODUCE keeps both laws (`KeepsPhaseLaws`)
+-- each phase from GUARD 1 to PRODUCE moves its own entries alone, and leaves such units their items and men
 pub later_are : EachPhase KeepsPhaseLaws later_phases
 later_are =
     keeps_phase_laws guard_spec (moves_nothing_alone no_moved_entries) guard_leaves

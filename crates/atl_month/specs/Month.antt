@@ -80,7 +80,7 @@ month_of w c readings words = let after = month_meaning w c (new_month readings 
 
 -- ---- the books
 
--- the law that each phase of a month moves the amounts of its own entries alone, and each by less than 10^14
+-- the law that each phase of a month moves only amounts that its specification lists (`moved`), each by less than 10^14
 abbrev pub PhasesMoveLittle : Type 0
 PhasesMoveLittle = EachPhase MovesItsOwn early_phases × EachPhase MovesItsOwn later_phases × EachPhase MovesItsOwn last_phases
 

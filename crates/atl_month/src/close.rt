@@ -80,8 +80,8 @@ pub fn each_order_has_one_event()
     ensures { EachOrderHasOneEvent }
 {}
 
-/// The laws of what a month books: each phase moves the amounts of its own entries alone, each by
-/// less than 10^14; and at most two phases move an amount. Does nothing.
+/// The laws of what a month books: each phase moves only amounts that its specification lists, each
+/// by less than 10^14; and at most two phases move an amount. Does nothing.
 pub fn phases_move_little()
     ensures little { PhasesMoveLittle }
     ensures two { TwoMoveAtMost }

@@ -48,7 +48,7 @@ changed_held f c d n what u is =
     ∙ ap (λ o. record c { units = with_changed_option (λ (v : Unit). record v { holding = f v.holding }) c.units n o })
     is
 
--- a change of unit n leaves each other unit as it is
+-- a change of unit n by f leaves each other unit k as it is
 pub change_keeps_others : (f : Unit → Unit) (c : CampaignValue) (n k : ℕ) → k ≢ n
     → get (unit_changed f c n).units k ≡ get c.units k
 change_keeps_others f c n k apart = by_unit (get c.units n)

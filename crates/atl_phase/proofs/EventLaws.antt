@@ -37,9 +37,10 @@ reports_at faction line m = filter (is_from faction line) (map report_of m.event
 -- ---- what a phase adds
 
 -- What a phase adds to the events of an order's faction and line: events with the reports `added`, given whether the
--- order counts in its mailing, and the order. This supposes that the mailings can be read with the world. The phase
--- keeps the mailings and the aliases.
+-- order counts in its mailing, and the order. The phase keeps the mailings and the aliases.
 pub record Gives (added : Bool → Task → List Report) (meaning : Meaning) : Type 0 where
+  -- if the mailings can be read with the world, the reports of an order's faction and line are, after the phase, those
+  -- from before, and then `added`; for this the order is in its faction's mailing
   pub events : (w : WorldValue) (c : CampaignValue) (m : MonthValue) (aliases : Aliases) (readings : FinMap nat_cmp Reading)
       → m.aliases ≡ aliases → m.readings ≡ readings → AreFit w readings
       → (t : Task) (there : IsInMailing aliases readings t)
@@ -75,7 +76,7 @@ reports_after faction line m events =
     ap (filter (is_from faction line)) (map-append report_of m.events events)
     ∙ filter-append (is_from faction line) (map report_of m.events) (map report_of events)
 
--- the reports of orders at a faction and line are those of the orders that are of the faction and on the line
+-- the reports of the orders `ts` at a faction and line are those of the orders that are of the faction and on the line
 pub reports_of_orders : (aliases : Aliases) (faction line : ℕ) (ts : List Task)
     → filter (is_from faction line) (map report_for ts) ≡ map report_for (filter (is_at aliases faction line) ts)
 reports_of_orders aliases faction line ts = filter-map (is_from faction line) report_for ts
@@ -98,7 +99,7 @@ report_in_phase w m aliases readings ea er fit t there is_of a =
     ∙ ap (map report_for) (one_in_phase w aliases readings fit t there is_of a)
     ∙ one_reported t (is_of t.order_value.verb && order_counts (tasks_of aliases t.faction there.reading) t)
 
--- the reports of the events that are made for some orders, whatever came of them, are those of the orders
+-- the reports of the events made for the orders `ts`, whatever came of them (`outcome`), are those of the orders
 pub reports_made : (outcome : Task → Outcome) (ts : List Task)
     → map report_of (map (λ t. event_for t (outcome t)) ts) ≡ map report_for ts
 reports_made outcome [] = refl
@@ -109,14 +110,14 @@ reports_made outcome (t ∷ ts) = ap (λ rs. report_for t ∷ rs) (reports_made 
 -- X is what orders carried out in turn change besides the month, such as the campaign. Below, `step` carries out one
 -- order: it makes of the X and the month before it those after it.
 module _ {X : Type 0} where
-  -- what `part` gives of the month stays the same over orders carried out in turn, if it does so over each order
+  -- what `part` gives of the month stays the same over the orders `ts`, if it does so over each; p is an X and a month
   pub fold_keeps : {A : Type 0} (part : MonthValue → A) (step : X × MonthValue → Task → X × MonthValue)
       → ((p : X × MonthValue) (t : Task) → part (step p t).1 ≡ part p.1) → (ts : List Task) (p : X × MonthValue)
       → part (fold step p ts).1 ≡ part p.1
   fold_keeps part step keeps [] p = refl
   fold_keeps part step keeps (t ∷ ts) p = fold_keeps part step keeps ts (step p t) ∙ keeps p t
 
-  -- orders of which each adds its event add an event for each, in their order
+  -- the orders `ts`, carried out in turn from p on, add an event for each, in their order, if each adds its event
   pub fold_adds : (step : X × MonthValue → Task → X × MonthValue)
       → ((p : X × MonthValue) (t : Task) → map report_of (step p t).1.events ≡ map report_of p.1.events ++ report_for t ∷ [])
       → (ts : List Task) (p : X × MonthValue)

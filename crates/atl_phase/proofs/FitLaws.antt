@@ -10,7 +10,7 @@ use Rattle.atl_world.proofs.EveryLaws.{every-empty, every-insert}
 use Rattle.atl_phase.specs.Month.{by_faction}
 use Rattle.atl_phase.specs.Fit.{AreFit}
 
--- mailings that were each read with the world have readings within its bounds (`AreFit`)
+-- mailings (`ms`) that were each read with the world have readings within its bounds (`AreFit`)
 pub read_fit : (w : WorldValue) (ms : List Mailing) → AllByRecursion (IsReadWith w) ms
     → AreFit w (by_faction (map reading_of ms))
 read_fit w [] all = every-empty (λ f r. IsReading w r)

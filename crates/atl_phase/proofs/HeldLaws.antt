@@ -18,7 +18,7 @@ use Rattle.atl_campaign.specs.Campaign.{CampaignValue}
 use Rattle.atl_campaign.specs.Good.{IsSteady}
 use Rattle.atl_phase.specs.Meaning.{most_moved}
 
--- if f of each entry's value is at most `most`, the sum of f over all entries is at most their number times `most`
+-- if f of each pair's value in `es` is at most `most`, the sum of f over all pairs is at most their number times `most`
 pub sum_within : {V : Type 0} (f : V → ℕ) (most : ℕ) (es : List (ℕ × V)) → EachEntry (λ n v. f v ≤ most) es
     → sum_by (λ e. f e.1) es ≤ length es * most
 sum_within f most [] each = omega arith

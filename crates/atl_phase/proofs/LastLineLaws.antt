@@ -64,7 +64,7 @@ module _ (lines : LastLineMap) (k u line : ℕ) where
       other true a = omega arith
       other false a = omega arith
 
--- the mailing of a faction, with the bytes `text`: `rest_from i es unit` is the greatest line that the entries es from
+-- the mailing of a faction, with the bytes `text`: `rest_from i es unit` is the greatest line that the orders es from
 -- index i on have in the slot for the unit (0 where none is)
 module _ (slot : Slot) (aliases : Aliases) (faction : ℕ) (text : List ℕ) where
   abbrev rest_from : ℕ → List Entry → ℕ → ℕ

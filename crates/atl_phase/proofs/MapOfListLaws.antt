@@ -45,7 +45,7 @@ module _ {X : Type 0} {R : X → X → Ordering} (o : IsTotalOrder R) where
       left_less (R (at k) (at (k + 1))) (ap is_lt (sym (o.antisymm (at (k + 1)) (at k))) ∙ up k x (omega arith) h)
       (apart_from_distinct (eq_by_cmp R) (x ∷ xs) k (k + 1) x apart (omega arith) h))
 
-  -- a list without two equal elements is strictly sorted once it is sorted
+  -- a list `xs` without two equal elements is strictly sorted once it is sorted into `ys`
   pub sorted_strictly : (xs ys : List X) → IsPermutation xs ys → IsDistinct (eq_by_cmp R) xs
       → IsSortedBy (λ x y. is_lt (R x y)) ys → IsStrictlySortedBy R ys
   sorted_strictly xs ys p apart =
@@ -70,7 +70,7 @@ module _ {K X : Type 0} {R : K → K → Ordering} (o : IsTotalOrder R) where
     put_first e [] h = refl
     put_first e (x ∷ xs) h = rw h.0
 
-    -- the map made of a list of entries lists just this list, if the list is strictly sorted by key
+    -- the map made of the entries of the list `xs` lists just these, if the list is strictly sorted by key
     pub entries_of : (xs : List A) → IsStrictlySortedBy (λ x y. R (entry x).0 (entry y).0) xs
         → entries (from_entries {R = R} (map entry xs)) ≡ map entry xs
     unfolding IsStrictlySortedBy
@@ -94,7 +94,7 @@ module _ {K X : Type 0} {R : K → K → Ordering} (o : IsTotalOrder R) where
 
   -- `exact`: only equal keys compare as equal
   module _ (exact : IsAntisymmetric R) where
-    -- the search of a map's entries for a key is the general look-up of a list by a test of equality
+    -- the search of a map's entries `es` for a key q is the general look-up of a list by a test of equality
     pub find_is : (q : K) (es : List (K × X)) → find R q es ≡ lookup (eq_by_cmp R q) es
     find_is q [] = refl
     find_is q (e ∷ es) = ap (cond (eq_by_cmp R q e.0) (Some e.1)) (find_is q es)
@@ -105,7 +105,7 @@ module _ {K X : Type 0} {R : K → K → Ordering} (o : IsTotalOrder R) where
         find_is q fs
         ∙ lookup-from_Contains (eq_by_cmp_equiv o) q v fs (keys_apart fs apart) (Contains-permutation es fs (q, v) p (Contains-from_lookup (tells_apart exact) q v es (sym (find_is q es) ∙ h)))
 
-    -- a list of entries in two orders makes the same map, if no two entries have the same key
+    -- a list of entries in two orders, `es` and `fs`, makes the same map, if no two entries have the same key
     pub from_entries-permutation : (es fs : List (K × X)) → IsPermutation es fs → IsDistinct same_entry_key es
         → from_entries {R = R} es ≡ from_entries fs
     from_entries-permutation es fs p apart =
@@ -123,7 +123,7 @@ module _ {K X : Type 0} {R : K → K → Ordering} (o : IsTotalOrder R) where
         find_is q (passing p es) ∙ lookup-filter-values (eq_by_cmp_equiv o) p q es (keys_apart es apart)
         ∙ ap (option_filter p) (sym (find_is q es))
 
-    -- the map of those entries whose values pass a test lists what passes of the entries that the map of all lists,
+    -- the map of those entries whose values pass a test p lists what passes of the entries that the map of all lists,
     -- if no two have the same key
     pub entries-passing : (p : X → Bool) (es : List (K × X)) → IsDistinct same_entry_key es
         → entries (from_entries {R = R} (passing p es)) ≡ passing p (entries (from_entries {R = R} es))
@@ -137,8 +137,8 @@ module _ {K X : Type 0} {R : K → K → Ordering} (o : IsTotalOrder R) where
         ∙ sym (find-passing p fs (IsDistinct-from_sorted by_key fs rise) q) ∙ sym (get-from_entries o (passing p fs) q)))
         ∙ subst (λ es. entries (from_entries {R = R} es) ≡ es) (map-id (passing p fs)) (entries_of (λ e. e) (passing p fs) (IsStrictlySortedBy-filter by_key (λ e. p e.1) fs rise))
 
-    -- the map made of the entries of elements in any order lists the entries of these elements sorted by key, if no two
-    -- elements have the same key
+    -- the map made of the entries of the elements `os` lists the entries of these elements sorted by key (`list`), if
+    -- no two elements have the same key
     pub entries-sorted : {A : Type 0} (entry : A → K × X) (os list : List A) → IsPermutation os list
         → IsDistinct (λ x y. same_entry_key (entry x) (entry y)) os
         → IsSortedBy (λ x y. is_lt (R (entry x).0 (entry y).0)) list → entries (from_entries {R = R} (map entry os)) ≡ map entry list

@@ -19,7 +19,7 @@ use Rattle.atl_campaign.proofs.OwnerLaws.{place-what}
 pub marks_by : (a b m : MarkedCampaign) → b.value ≡ m.value → b.marks ≡ m.marks → MarksChanges a m → MarksChanges a b
 marks_by a b m what marks h = rw (what, marks) (record { stay = h.stay; covers = h.covers })
 
--- if all that changed from a to b is marked, so it is from a to d, which is b with one more booking, marked too
+-- if all that changed from a to b is marked, so it is from a to d, which is b with z booked besides, marked too
 pub booked_marks : (a b d : MarkedCampaign) (e : BooksEntry) (t : Thing) (z : ℤ) → MarksChanges a b
     → d.value ≡ with_booking b.value e t z → d.marks ≡ mark_amount b e t → MarksChanges a d
 booked_marks a b d e t z before what marks =

@@ -142,8 +142,8 @@ module _ {A : Type 0} {leaves : Condition} (book_bound : BookBound) (w : WorldVa
       → IsBoundWithin (both_move book_bound (moved_times (length xs) book_bound)) (moved_times (length (x ∷ xs)) book_bound)
   more x xs e t = let one : length (x ∷ xs) * book_bound e t ≡ length xs * book_bound e t + book_bound e t = suc-mul (length xs) (book_bound e t) in omega arith
 
-  -- where `leaves` is true, steps in turn keep it true, the month, the books' balance, and each amount within one
-  -- step's bound times their number (`LeavesWell`)
+  -- where `leaves` is true, a step for each element of `xs` in turn keeps it true, the month, the books' balance, and
+  -- each amount within one step's bound times their number (`LeavesWell`)
   pub fold_leaves_well : (c : CampaignValue) (xs : List A) → leaves w c
       → LeavesWell leaves (moved_times (length xs) book_bound) w c (fold step c xs)
   fold_leaves_well c [] h = well_unchanged (moved_times 0 book_bound) w c h

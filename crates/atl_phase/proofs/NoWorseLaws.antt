@@ -1,5 +1,6 @@
--- Laws of being no worse off (`IsNoWorse`: in the same place, with the same name and guard flag, and nothing lost). It
--- is reflexive and transitive, for a unit and for all units of a campaign.
+-- Laws of being no worse off (`IsNoWorse`): the same faction, region, structure, name and guard flag, and no fewer men,
+-- no less money, and no less of any item or of the days of any skill. It is reflexive and transitive, for a unit and
+-- for all units of a campaign.
 use Rattle.std.proofs.Common.{refl, ◌∙◌, arith}
 use Rattle.atl_records.specs.declared.records.Unit.{Unit}
 use Rattle.atl_campaign.specs.Campaign.{CampaignValue}

@@ -52,7 +52,7 @@ pub bound_used_twice : (r s t : ℕ) (a b c : ℤ) → UsesBound r s a b → Use
 bound_used_twice r s t a b c one two =
     record { above = omega (arith, ints, one.above, two.above); below = omega (arith, ints, one.below, two.below) }
 
--- an amount that moves by at most x moves within what its remaining bound falls, if that falls by x
+-- an amount that moves by at most x moves within what its remaining bound falls, if this falls by x to `left`
 pub bound_used_near : (x remaining left : ℕ) (a b : ℤ) → left + x ≡ remaining → IsNear x a b
     → UsesBound remaining left a b
 bound_used_near x remaining left a b e near =
@@ -141,8 +141,8 @@ ordered_cases P (Some effect) c t same done =
 abbrev with_some : CampaignValue × Outcome → CampaignValue × Option Outcome
 with_some p = (p.0, Some p.1)
 
--- the campaign d and the outcome o that an order's effect makes are the order's result, with the outcome in `Some`, if
--- the phase doesn't pass the order over
+-- the campaign d and the outcome o that the effect of an order of `faction` for unit n makes are the order's result,
+-- with the outcome in `Some`, if the phase doesn't pass the order over
 pub result_of_effect : (effect : OrderEffect) (c d : CampaignValue) (faction n : ℕ) (o : Outcome)
     → (d, o) ≡ faction_effect effect c faction n → (d, Some o) ≡ order_result (Some effect) c faction n
 result_of_effect effect c d faction n o is = ap with_some is
@@ -224,8 +224,8 @@ module _ (w : WorldValue) where
           so _ (All-from_recursion (λ t. is_of t.order_value.verb ≡ true) (orders_of is_of a aliases readings) (orders_have_verbs is_of a aliases readings) k d l)
           (in_mailing_in_bounds _ (orders_are_in_mailings is_of a aliases readings k d l))
 
-      -- what is so (P) of all orders that have a verb of the phase and can be read with the world is so of the order at
-      -- i in the code's list of the phase's orders
+      -- what is so (P) of all orders that have a verb of the phase and can be read with the world is so of the order o
+      -- at i in `os`, the code's list of the phase's orders
       pub listed_order : (os : List PhaseOrder) → map task_of os ≡ orders_of is_of a aliases readings
           → (i : ℕ) (o : PhaseOrder) → o ≡ get_or os i o → i < length os → P (task_of o)
       listed_order os are i o is inside =
@@ -238,7 +238,7 @@ event_keeps_readings : (m : MonthValue) (t : Task) (o : Option Outcome) → (wit
 event_keeps_readings m t None = refl
 event_keeps_readings m t (Some outcome) = refl
 
--- an order leaves the mailings of the month as they are
+-- an order leaves the mailings of the month as they are; p is the campaign and the month before it
 pub order_readings : (step : OrderMeaning) (w : WorldValue) (p : CampaignValue × MonthValue) (t : Task)
     → (one_order step w p t).1.readings ≡ p.1.readings
 order_readings step w p t = event_keeps_readings p.1 t (order_result (step w p.1.aliases t) p.0 t.faction t.unit).1

@@ -54,9 +54,10 @@ module _ (is_of : Verb → Bool) (aliases : Aliases) (ms : List Mailing) (at : �
       ap (λ es. filter is_wanted (tasks_from aliases read.faction i (map (entry_value read.text) es)))
       (drop_more read.entries i no_entry h)
 
-  -- the list has the indices of the orders that count before index i of the mailing, after those of `old`
+  -- the list has the indices of `old`, and then those of the orders that count before index i of the mailing
   pub record Added (old : List OrderIndex) (i : ℕ) (list : List OrderIndex) : Type 0 where
     pub there : All (IsThere ms) old → All (IsThere ms) list
+    -- the orders that `list` names, and then those that count from index i on, are those of `old` and all that count
     pub tasks : map (task_at ms) list ++ rest_from i ≡ map (task_at ms) old ++ rest_from 0
 
   -- `list` has the indices of the orders that count before the order at i, after those of `old` (`before`)
@@ -94,7 +95,8 @@ module _ (is_of : Verb → Bool) (aliases : Aliases) (ms : List Mailing) (at : �
       index = i;
     }
 
-    -- the code finds by the noted lines of the mailing (b) whether the order at i counts for the phase
+    -- if `lines` are the greatest lines of the mailing by slot and unit, what the code finds by them (b) is whether the
+    -- order at i counts for the phase
     pub counts_by : (lines : LastLineMap) (b : Bool) → AreLastLines (tasks_at aliases ms at) lines
         → b ≡ (is_of e.order.verb && counts_by_lines lines unit e.line (row_of e.order.verb).slot) → counts i ≡ b
     counts_by lines b last is =
@@ -109,8 +111,8 @@ module _ (is_of : Verb → Bool) (aliases : Aliases) (ms : List Mailing) (at : �
         subst (Added old (i + 1)) (sym (is ∙ ap (λ p. list ++ p ∷ []) found_is))
         (pushed old list i h before within counted)
 
-  -- past the last order of the mailing the list has the old indices and those of all orders of the mailing that count
-  -- for the phase (`AddsMailing`)
+  -- where i is past the last order of the mailing, the list has the old indices and those of all orders of the mailing
+  -- that count for the phase (`AddsMailing`)
   pub ended : (old list : List OrderIndex) (i : ℕ) → length read.entries ≤ i → Added old i list
       → AddsMailing is_of aliases ms at old list
   ended old list i h before = record {
@@ -149,7 +151,7 @@ none_wanted is_of aliases asked faction i text (e ∷ es) h =
     by_test others true g = absurd (true≢false g)
     by_test others false g = others g
 
--- a mailing without an order whose verb passes `is_of` adds no index (`AddsMailing`)
+-- the mailing at index `at`, if no verb of its orders passes `is_of`, adds no index (`AddsMailing`)
 pub adds_none : (is_of : Verb → Bool) (aliases : Aliases) (ms : List Mailing) (at : ℕ) (list : List OrderIndex)
     → list_any (λ (e : Entry). is_of e.order.verb) (mailing_at ms at).entries ≡ false
     → AddsMailing is_of aliases ms at list list

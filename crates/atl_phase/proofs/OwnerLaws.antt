@@ -34,9 +34,9 @@ module _ (c d : CampaignValue) (n : ℕ) (away : (k : ℕ) → k ≢ n → get d
     ownerless = λ none. every_away (λ k v. v.structure ≢ q) (outside none) (λ k v apart there. old.ownerless none k v there);
   }
 
-  -- The structure (y) of number `location` is in d rightly owned by its heir: the lowest of the units but n inside it
-  -- in c, or nobody (0) where there is none. For this unit n isn't inside it in d, and all units have numbers of at
-  -- least 1.
+  -- The structure (y) of number `location`, which isn't 0, is in d rightly owned by its heir: the lowest of the units
+  -- but n inside it in c, or nobody (0) where there is none. For this unit n isn't inside it in d, and all units have
+  -- numbers of at least 1.
   pub heir_owns : (location : ℕ) → location ≢ 0 → Every (λ k v. 1 ≤ k) c.units
       → ((v : Unit) → get d.units n ≡ Some v → v.structure ≢ location) → (y : Structure)
       → IsOwned d location (owned_by (heir c location n) y)

@@ -34,7 +34,7 @@ filter-map p f (x ∷ xs) =
       | false ↦ rest
     ]
 
--- to sort by `key_of` what passes a test p is to sort all and keep what passes, if no two orders have one key
+-- to sort by `key_of` what of `ts` passes a test p is to sort all and keep what passes, if no two have one key
 pub sorted-passing : (a : Arrangement) (p : Task → Bool) (ts : List Task) → IsDistinct (same_key a) ts
     → sorted_by (key_of a) (filter p ts) ≡ filter p (sorted_by (key_of a) ts)
 sorted-passing a p ts apart =
@@ -75,8 +75,8 @@ module _ (wide is_of : Verb → Bool) (within : (v : Verb) → is_of v ≡ (wide
       ap (filter (has_verb is_of)) all ∙ sym (sorted-passing a (has_verb is_of) _ (all_apart a aliases wide readings))
       ∙ ap (sorted_by (key_of a)) (sym (picked_tasks (entries readings)))
 
-  -- The list that the code returns has the orders of the phase, if it has those that are picked from the indices of the
-  -- orders of more verbs that count. The code reads the mailings `ms` as `ns`, and the indices `places` as `qs`.
+  -- The list that the code returns (r) has the orders of the phase, if it has those that are picked from the indices of
+  -- the orders of more verbs that count. The code reads the mailings `ms` as `ns`, and the indices `places` as `qs`.
   pub picked_list : {Z E : Type 0} (a : Arrangement) (ms ns : List Mailing) (places qs : List OrderIndex) (r : Result (Vec PhaseOrder Z) E)
       → ns ≡ ms → qs ≡ places → AreOrderIndices wide a aliases ms places
       → IfOk r (λ list. map task_of list.items ≡ tasks_picked is_of ns qs)

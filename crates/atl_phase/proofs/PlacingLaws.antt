@@ -43,7 +43,7 @@ relabelled_twice : (x y z : Structure) → IsRelabelled x y → IsRelabelled y z
 relabelled_twice x y z one two =
     record { kind = two.kind ∙ one.kind; region = two.region ∙ one.region; done = two.done ∙ one.done; name = λ old. two.name (one.name old) }
 
--- in a steady campaign a unit owns no structure but the one that it is inside
+-- in a steady campaign unit n (u) owns no structure q but the one that it is inside
 pub owns_no_other : (w : WorldValue) (c : CampaignValue) (n : ℕ) (u : Unit) → get c.units n ≡ Some u → IsSteady w c
     → (q : ℕ) (y : Structure) → get c.structures q ≡ Some y → q ≢ u.structure → y.owner ≢ n
 owns_no_other w c n u is steady q y there other own =
@@ -205,7 +205,7 @@ module _ (w : WorldValue) (c : CampaignValue) (n : ℕ) (u : Unit) (s : ℕ) (is
 
 -- ---- other units stay
 
--- putting unit n in region r and structure s leaves each other unit as it is
+-- putting unit n in region r and structure s leaves each other unit k as it is
 pub place_stays : (c : CampaignValue) (n r s k : ℕ) → k ≢ n → get (with_place c n r s).units k ≡ get c.units k
 place_stays c n r s k apart =
     placed_cases (λ d. get d.units k ≡ get c.units k) c n r s refl (changed_else (λ (x : Unit). record x { region = r; structure = s }) c.units n k apart (get c.units n))

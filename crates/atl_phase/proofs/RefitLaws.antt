@@ -31,7 +31,7 @@ pub record IsRelabelled (before after : Structure) : Type 0 where
   pub done : after.done ≡ before.done
   pub name : IsTrue (name_ok before.name) → IsTrue (name_ok after.name)
 
--- where f mapped over an option makes Some x, the option has a value that f makes x of
+-- where f mapped over an option o makes Some x, the option has a value v of which f makes x
 pub mapped_from : {A B : Type 0} (f : A → B) (o : Option A) (x : B) → option_map f o ≡ Some x
     → (v : A) × (o ≡ Some v) × (f v ≡ x)
 mapped_from f None x is = none_some x is
@@ -95,14 +95,16 @@ module _ (w : WorldValue) (c : CampaignValue) (n : ℕ) (u : Unit) (s : ℕ) (is
   abbrev pub refitted : CampaignValue
   refitted = record c { units = units; structures = structures }
 
-  -- A refit: on land unit n is inside structure s of its region, or inside none (s is 0); on water s is a ship. The
-  -- function g gives the structures, each changed in owner and name at most, and with its right owner.
+  -- A refit: unit n is inside structure s of its region, or inside none (s is 0), and the structures are those that g
+  -- makes of the old ones, each changed in owner and name at most, and with its right owner.
   pub record IsRefit : Type 0 where
     pub at : (k : ℕ) → get structures k ≡ option_map (g k) (get c.structures k)
     pub count : len structures ≡ len c.structures
     pub same : Every (λ k y. IsRelabelled y (g k y)) c.structures
     pub owned : Every (λ k y. IsOwned refitted k (g k y)) c.structures
+    -- s, if it isn't 0, is a structure of the unit's region
     pub inside : s ≢ 0 → (x : Structure) × (get c.structures s ≡ Some x) × (x.region ≡ u.region)
+    -- where the unit's region is water, s is a ship
     pub afloat : is_land_at w u.region ≡ false → (x : Structure) × (get c.structures s ≡ Some x) × (is_ship w x ≡ true)
 
   -- the campaign `refitted` is a refit of c, with right owners (`refit`)

@@ -40,22 +40,27 @@ use Rattle.atl_phase.proofs.PhaseOrderLaws.{orders_are_in_mailings}
 
 -- ---- phases one after the other
 
--- After the phase, if it keeps what `keeps` says, each unit of a faction without a mailing is there. It has its faction
--- and name, no less of any item, and its men less exactly those who starve. The phase keeps the mailings and takes back
--- no Starved event.
+-- The phase keeps the mailings, takes back no Starved event, and leaves units of factions without a mailing their
+-- names, their items, and their men less the starved.
 pub record LeavesUnmailed (meaning : Meaning) (keeps : Frame) : Type 0 where
   pub readings : (w : WorldValue) (c : CampaignValue) (m : MonthValue) → (meaning w c m).1.readings ≡ m.readings
+  -- of each unit the events report no fewer starved men than before the phase
   pub starved_reported : (w : WorldValue) (c : CampaignValue) (m : MonthValue) (n : ℕ)
       → starved_in m.events n ≤ starved_in (meaning w c m).1.events n
+  -- If the phase keeps what `keeps` says, each unit of a faction without a mailing is there after it. It has its
+  -- faction and name, no less of any item, and its men less exactly those whom the phase's events report as starved.
   pub left : (w : WorldValue) (c : CampaignValue) (m : MonthValue) → keeps w m c (meaning w c m).0 →
       Every (λ n u. get m.readings u.faction ≡ None → IsStillThere (IsLessBy (starved_in (meaning w c m).1.events n - starved_in m.events n)) (meaning w c m).0 n u) c.units
 
--- After the phase, if it keeps what `keeps` says, each unit of a faction without a mailing is there. It has its faction
--- and name, no less of any item, and its men less exactly those who starve. It is removed if all its men starve, and no
--- more starve than it has (`IsLeft`). The phase takes back no Starved event, and may change the mailings.
+-- The phase takes back no Starved event, and may change the mailings. Units of factions without a mailing keep their
+-- names, their items, and their men less the starved, or are removed if all their men starve.
 pub record ClosesUnmailed (meaning : Meaning) (keeps : Frame) : Type 0 where
+  -- of each unit the events report no fewer starved men than before the phase
   pub starved_reported : (w : WorldValue) (c : CampaignValue) (m : MonthValue) (n : ℕ)
       → starved_in m.events n ≤ starved_in (meaning w c m).1.events n
+  -- If the phase keeps what `keeps` says, each unit of a faction without a mailing is left its faction and name, no
+  -- less of any item, and its men less exactly those whom the phase's events report as starved. No more starve than it
+  -- has. If all its men starve, it is removed instead (`IsLeft`).
   pub left : (w : WorldValue) (c : CampaignValue) (m : MonthValue) → keeps w m c (meaning w c m).0 →
       Every (λ n u. get m.readings u.faction ≡ None → IsLeft (starved_in (meaning w c m).1.events n - starved_in m.events n) (meaning w c m).0 n u) c.units
 
@@ -91,7 +96,8 @@ still_none one w c m f g same none =
 
 -- two phases, `first` and then `second`, with what each keeps: `early` for the first, and `late` for the second
 module _ {first second : Meaning} {early late : Frame} where
-  -- two phases in turn leave units of factions without a mailing as `LeavesUnmailed` says, if each does
+  -- two phases in turn leave units of factions without a mailing their names and items, and their men less the starved
+  -- (`LeavesUnmailed`), if each does
   pub both_leave : LeavesUnmailed first early → LeavesUnmailed second late
       → LeavesUnmailed (then_also first second) (both_keep first early late)
   both_leave one two = record {
@@ -104,7 +110,8 @@ module _ {first second : Meaning} {early late : Frame} where
         record { unit = b.unit; there = b.there; is_unaffected = less_twice _ _ _ u a.unit b.unit (one.starved_reported w c m n) (two.starved_reported w between.0 between.1 n) a.is_unaffected b.is_unaffected };
   }
 
-  -- a phase of `LeavesUnmailed` and then one of `ClosesUnmailed` together do as `ClosesUnmailed` says
+  -- If the first phase leaves such units their names, items and men less the starved (`LeavesUnmailed`), and the second
+  -- one also removes those all of whose men starve (`ClosesUnmailed`), both in turn do as the second one.
   pub then_closes : LeavesUnmailed first early → ClosesUnmailed second late
       → ClosesUnmailed (then_also first second) (both_keep first early late)
   then_closes one two = record {
@@ -171,7 +178,7 @@ men_put c d k v x here stay same n u there = elim (cases_eq n k) [
       record { unit = u; there = ap (λ (m : FinMap nat_cmp Unit). get m n) same ∙ get-insert_other c.units k n x apart ∙ there; is_unaffected = record { faction = refl; men = refl } }
 ]
 
--- steps in turn leave all units their men (`HaveTheirMen`), if each step does so in every campaign
+-- steps in turn, one for each of `xs`, leave all units their men (`HaveTheirMen`), if each does so in every campaign
 pub men_in_turn : {X : Type 0} (step : CampaignValue → X → CampaignValue)
     → ((c : CampaignValue) (x : X) → HaveTheirMen c (step c x)) → (c : CampaignValue) (xs : List X)
     → HaveTheirMen c (fold step c xs)
@@ -179,7 +186,7 @@ men_in_turn step each c [] = men_stay c
 men_in_turn step each c (x ∷ xs) =
     men_twice c (step c x) (fold step (step c x) xs) (each c x) (men_in_turn step each (step c x) xs)
 
--- an order, with a fault or without, leaves all units their men (`HaveTheirMen`), if what it does without a fault does
+-- an order, with a fault or without, leaves all units their men (`HaveTheirMen`), if it does without one, as d
 pub men_unless : (c d : CampaignValue) (o : Outcome) (fault : Option EventFault) → HaveTheirMen c d
     → HaveTheirMen c (fault_or c fault (d, o)).0
 men_unless c d o (Some fault) h = men_stay c
@@ -188,13 +195,13 @@ men_unless c d o None h = h
 flag_men : (flag : Bool) (u : Unit) → HasItsMen u (record u { holding = record u.holding { guard = flag } })
 flag_men flag u = record { faction = refl; men = refl }
 
--- setting or clearing a guard flag leaves all units their men (`HaveTheirMen`)
+-- setting or clearing the guard flag of unit n leaves all units their men (`HaveTheirMen`)
 pub guard_men : (c : CampaignValue) (n : ℕ) (flag : Bool) → HaveTheirMen c (with_guard c n flag)
 guard_men c n flag =
     men_changed (λ u. record u { holding = record u.holding { guard = flag } }) (flag_men flag) c (with_guard c n flag)
     n refl
 
--- putting a unit in another region or structure leaves all units their men (`HaveTheirMen`)
+-- putting unit n in region r and structure s leaves all units their men (`HaveTheirMen`)
 pub place_men : (c : CampaignValue) (n r s : ℕ) → HaveTheirMen c (with_place c n r s)
 place_men c n r s =
     let there : Unit → Unit = λ u. record u { region = r; structure = s } in
@@ -243,14 +250,14 @@ module _ {meaning : Meaning} {keeps : Frame} (readings : (w : WorldValue) (c : C
 
 -- ---- a phase whose orders are carried out one by one
 
--- no order of a phase is of a faction without a mailing
+-- no order of a phase is of a faction f without a mailing
 pub none_ordered : (is_of : Verb → Bool) (arrangement : Arrangement) (m : MonthValue) (f : ℕ) → get m.readings f ≡ None
     → All (λ t. t.faction ≢ f) (orders_of is_of arrangement m.aliases m.readings)
 none_ordered is_of arrangement m f none k d l same =
     let h = orders_are_in_mailings is_of arrangement m.aliases m.readings k d l in
     none_some h.reading (sym none ∙ ap (get m.readings) (sym same) ∙ h.of_faction)
 
--- the event of an order reports no man as starved
+-- the event of an order reports no man of any unit n as starved
 pub order_event_starves_none : (events : List Event) (t : Task) (outcome : Outcome) (n : ℕ)
     → starved_in (events ++ event_for t outcome ∷ []) n ≡ starved_in events n
 order_event_starves_none events t outcome n =
@@ -321,7 +328,7 @@ module _ (step : OrderMeaning) where
     unfolding meaning_by_orders
     carried_readings w c m = orders_readings w (c, m) (orders_of is_of ByUnit m.aliases m.readings)
 
-    -- a phase that carries its orders out one by one reports no man as starved
+    -- a phase that carries its orders out one by one reports no man of any unit n as starved
     pub carried_starve_none : (w : WorldValue) (c : CampaignValue) (m : MonthValue) (n : ℕ)
         → starved_in (meaning_by_orders step is_of w c m).1.events n ≡ starved_in m.events n
     unfolding meaning_by_orders
@@ -336,9 +343,10 @@ module _ (step : OrderMeaning) where
         let ts = orders_of is_of ByUnit m.aliases m.readings in
         orders_leave_men unaffected w c m ts n u there (recursion_from_All (λ t. t.faction ≢ u.faction) ts (none_ordered is_of ByUnit m u.faction none))
 
-    -- A phase that carries out its orders one by one does as `LeavesUnmailed` says. For this each order must leave
-    -- units of other factions their men (`LeavesOthersMen`). Where `keeps` is so of a change from c to d, units of
-    -- factions without a mailing must keep their names and items (`HasItsItems`).
+    -- A phase that carries out its orders one by one leaves units of factions without a mailing their names, items and
+    -- men (`LeavesUnmailed`). For this each order must leave units of other factions their men (`LeavesOthersMen`).
+    -- Where `keeps` is so of a change from c to d, units of factions without a mailing must keep their names and items
+    -- (`HasItsItems`).
     pub carried_leaves : {keeps : Frame} → LeavesOthersMen step
         → ((w : WorldValue) (c d : CampaignValue) (m : MonthValue) → keeps w m c d → UnmailedAre HasItsItems m c d)
         → LeavesUnmailed (meaning_by_orders step is_of) keeps
@@ -346,7 +354,7 @@ module _ (step : OrderMeaning) where
         whole_leaves {meaning = meaning_by_orders step is_of} {keeps = keeps} carried_readings carried_starve_none
         (λ w c m h. carried_men unaffected w c m) (λ w c m h. items w c (meaning_by_orders step is_of w c m).0 m h)
 
--- an order that is a unit's own (`IsOwnOrder`) is of the faction of that unit
+-- an order that is the own order of unit n of faction f (`IsOwnOrder`) is of faction f
 pub own_faction : (t : Task) (n f : ℕ) → IsOwnOrder t n f → t.faction ≡ f
 own_faction t n f h = h.faction
 

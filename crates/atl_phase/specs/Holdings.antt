@@ -1,4 +1,4 @@
--- Changes to the holding of one unit: the campaign after it, and which marks are set.
+-- Changes to the holding of one unit (name, men, money, guard flag, items and days), and which marks they set.
 use Rattle.std.specs.Prelude.{◌≡◌, ℕ, List, fold}
 use Rattle.std.specs.Ordering.{nat_cmp}
 use Rattle.std.specs.FinMap.{FinMap}
@@ -20,7 +20,6 @@ pub record ChangesHolding (before after : MarkedCampaign) (n : ℕ) (change : Ho
 pub record MarksNoItems (before after : Marks) : Type 0 where
   -- the marks of goods, each for all items and days of a unit at once, are those from before
   pub goods : after.goods ≡ before.goods
-  -- the marks of single items are those from before
   pub items : after.items ≡ before.items
 
 -- a change marks no items and no days: the marks of single items and skills, and those of all items and days of a unit
@@ -28,7 +27,7 @@ pub record MarksNoItems (before after : Marks) : Type 0 where
 abbrev pub MarksNoGoods : Marks → Marks → Type 0
 MarksNoGoods before after = MarksNoItems before after × (after.skills ≡ before.skills)
 
--- the days of study by skill (`days`), with those of each listed skill set to the number beside it; of two entries of
--- one skill the later counts, and the result has no skill that is set to 0
+-- the days of study by skill (`days`), with those of each listed skill set to the number beside it; of two pairs of one
+-- skill the later counts, and the result has no skill that is set to 0
 abbrev pub with_days : FinMap nat_cmp ℕ → List (ℕ × ℕ) → FinMap nat_cmp ℕ
 with_days days list = fold (λ all e. with_amount_of all e.0 e.1) days list

@@ -74,7 +74,6 @@ pub record IsNear (most : ℕ) (before after : ℤ) : Type 0 where
 pub record IsSameMonth (before after : CampaignValue) : Type 0 where
   pub month : after.month ≡ before.month
   pub reports : after.reports ≡ before.reports
-  -- there are as many factions as before
   pub count : len after.factions ≡ len before.factions
   -- no faction is added
   pub factions : (n : ℕ) → HasValue after.factions n → HasValue before.factions n

@@ -36,11 +36,11 @@ pub record MonthValue : Type 0 where
 
 -- ---- the encoding of a month for the logic
 
--- a part of `month_code`: the encoding of what an order says, with its names as texts
+-- for `month_code`: the encoding of what an order says, with its names as texts
 abbrev pub order_value_code : Coded OrderValue
 order_value_code = (order.the_row (sequence.the_row u8)).coded
 
--- a part of `month_code`: the encoding of an entry of a mailing by its line, the unit that it names, and its order
+-- for `month_code`: the encoding of an order in a mailing by its line, the unit that it names, and what it says
 abbrev pub entry_code : Coded EntryValue
 entry_code =
     code_by (ℕ × (UnitRef × OrderValue)) (coded× coded_ℕ (coded× target.the_row.coded order_value_code))
@@ -48,7 +48,7 @@ entry_code =
     (λ p. record { line = p.0; target = p.1.0; order_value = p.1.1 })
     (λ _. refl)
 
--- a part of `month_code`: the encoding of what was read of a mailing by its faction, its entries and its faulty lines
+-- for `month_code`: the encoding of what was read of a mailing by its faction, its orders and its faulty lines
 abbrev pub reading_code : Coded Reading
 reading_code =
     code_by (ℕ × (List EntryValue × List FaultyLine))

@@ -135,8 +135,8 @@ AreOrderIndices is_of arrangement aliases mailings =
 abbrev pub tasks_picked : (Verb → Bool) → List Mailing → List OrderIndex → List Task
 tasks_picked is_of mailings places = filter (has_verb is_of) (map (task_at mailings) places)
 
--- The invariant of a month: its mailings, no two of one faction, are sorted by faction, and its gathered indices by
--- unit. The gathered indices, if there are any, name all orders that count.
+-- The invariant of a month: its mailings, no two of one faction, are sorted by faction. The indices that were gathered,
+-- if any were, name all orders that count, sorted by unit, line and faction.
 pub record IsSortedMonth {Z : Type 0} (aliases : Aliases) (mailings : List Mailing)
     (gathered_indices : Option (Vec OrderIndex Z)) : Type 0 where
   pub sorted : AreByFaction mailings

@@ -1,6 +1,6 @@
 -- The orders that a phase carries out, and their order. `is_of` says which verbs a phase has. An arrangement says what
--- orders are sorted by first: unit or faction. `readings` has what was read of each faction's mailing. See
--- docs/RULES.md, "Orders of a month".
+-- orders are sorted by first: unit or faction. `readings` has what was read of each faction's mailing. An entry of a
+-- mailing is one of its orders, with its line and its unit. See docs/RULES.md, "Orders of a month".
 use Rattle.std.specs.Prelude.{◌≡◌, ℕ, ◌+◌, max, Bool, true, false, ◌&&◌, ◌==◌, if◌then◌else◌, List, [], ◌∷◌, map, filter, Option, Some, None, unwrap_or}
 use Rattle.std.specs.List.{All, flat_map, slice_get}
 use Rattle.std.specs.Ordering.{nat_cmp}

@@ -42,12 +42,11 @@ may_move moved e t = is_among e (entries_of moved t)
 -- the specification of a phase: its effect, its bound on the books, the entries that it may move, and what it keeps
 pub record PhaseSpec : Type 1 where
   pub meaning : Meaning
-  -- by how much the phase may move each amount of the books
   pub book_bound : BookBound
   pub moved : MovedEntries
   pub keeps : Frame
 
--- By its bound a phase moves the amounts of its own entries alone (`may_move`), and each by less than 10^14.
+-- By its bound a phase moves only amounts that it may move (`may_move`), and each by less than 10^14.
 abbrev pub MovesItsOwn : PhaseSpec → Type 0
 MovesItsOwn phase = (e : BooksEntry) (t : Thing) → phase.book_bound e t ≤ (if may_move phase.moved e t then most_moved else 0)
 

@@ -29,7 +29,6 @@ pub record IsLessBy (fewer : ℕ) (before after : Unit) : Type 0 where
 
 -- what is left in the campaign `after` of unit u, given with its number, once `starved` of its men starved
 pub record IsLeft (starved : ℕ) (after : CampaignValue) (number : ℕ) (u : Unit) : Type 0 where
-  -- no more men starved than the unit had
   pub most : starved ≤ u.holding.men
   -- where fewer men starved than the unit had, it is still there, with its faction and name, no less of any item, and
   -- exactly those men less

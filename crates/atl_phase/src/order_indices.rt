@@ -43,7 +43,8 @@ impl OrderIndex {
     }
 }
 
-/// `lines` has the greatest line of each slot and unit in the order's mailing.
+/// Whether an order, which is for `unit`, has a verb of the phase and counts. `lines` has the
+/// greatest line of each slot and unit in the order's mailing.
 fn counts<P: PhaseVerbs>(phase: &P, lines: &LastLines, unit: u32, entry: &Entry) -> bool
     ensures { result ≡ (P.is_of entry.now.order.verb
         && counts_by_lines lines.now unit entry.now.line (row_of entry.now.order.verb).slot) }

@@ -71,8 +71,9 @@ module _ {S : Type 0} (g : Ghosts S) where
     text = λ up clean. ap world_of (world_text_is (state g conn) text c (holds clean)) ∙ is;
   }
 
-  -- if the founded campaign was prepared (`Prepares`), its tables were created (`Creates`), and `conn` is later than
-  -- `old` (`IsLater`), the service with it is founded as promised (`Founds`)
+  -- If the founded campaign was prepared (`Prepares`), its tables were created (`Creates`), and `conn` is later than
+  -- `old` (`IsLater`), the service with all three is founded. There was no table `campaign`, and on a clean disk the
+  -- tables hold the text and the campaign (`Founds`).
   pub founds_on : (old conn : Held S) (w : WorldValue) (c : CampaignValue) (text pass : List ℕ) → Prepares text pass w c
       → Creates g text c old conn → IsLater (state g old) (state g conn)
       → Founds g old text pass (record { conn = conn; world = w; campaign = Some c })

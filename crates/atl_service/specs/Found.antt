@@ -1,6 +1,7 @@
 -- What `found` returns and leaves. `old` and `new` are the connection before and after it, and `made` is the service
--- that it returns. `g` is the kind of store, in memory or in files. A disk is clean if each read has returned what was
--- written (docs/PROVED.md, "Premises"). See docs/RULES.md, "Founding".
+-- that it returns. `g` is the kind of store, in memory or in files. A connection is ready if its database has no table,
+-- index or view, and it is in no transaction. A disk is clean if each read has returned what was written
+-- (docs/PROVED.md, "Premises"). See docs/RULES.md, "Founding".
 use Rattle.std.specs.Prelude.{◌≡◌, ◌⊎◌, ℕ, List, Bool, true, false, Some, Ok, Err, ⊤}
 use Rattle.sqlite_trees.specs.declared.store.Store.{Ghosts}
 use Rattle.sqlite.specs.Held.{Held, state}
@@ -37,17 +38,16 @@ pub record Founds {S : Type 0} (g : Ghosts S) (old : Held S) (text pass : List �
   pub tables : HoldsCampaign g made.conn text (founded_of made.world pass)
   -- if the disk is clean, the world text that the tables hold is the given text
   pub text_is : HasCleanDisk (state g made.conn) → text_in g made.conn ≡ text
-  -- a disk that isn't clean stays so, no failure of it is forgotten, and reads that are compared with digests stay so
-  -- (`IsLater`)
+  -- a disk that isn't clean stays so, no failure is forgotten, and reads compared with digests stay so (`IsLater`)
   pub later : IsLater (state g old) (state g made.conn)
 
 -- The text is a world: it parses without a fault.
 abbrev pub IsWorldText : List ℕ → Type 0
 IsWorldText text = (w : WorldValue) × (world_of text ≡ Ok w)
 
--- Founding by a world text and a pass text may fail with this cause: that of the first check that fails, Store if none
--- fails, or Memory.
--- `is_there` says whether a table `campaign` exists. Causes of opening and upgrading never apply.
+-- Founding by a world text and a pass text may fail with this cause: that of the first check that fails (the world
+-- text, the pass text, no table `campaign`), Store if none fails, or Memory. `is_there` says whether there is a table
+-- `campaign`. Causes of opening and upgrading never apply.
 abbrev pub MayBeCause : List ℕ → List ℕ → Bool → Cause → Type 0
 MayBeCause text pass is_there (BadWorld fault) = world_of text ≡ Err fault
 MayBeCause text pass is_there BadPassText = IsWorldText text × (pass_ok pass ≡ false)
@@ -82,9 +82,10 @@ RefusesToWrite g own old new =
 
 -- What a refused founding by a world text and a pass text leaves, by its cause. After a failed check nothing is
 -- changed. After Store and Memory, if the disk is clean, the tables are as before while the connection is open, and a
--- crash may leave the founded campaign (`FailsToFound`). Store comes of a connection that isn't ready, or of an error
--- of the write (`RefusesToWrite`). With Memory the connection is unchanged, or a call of the write ran out of memory
--- (`LacksMemory`). Causes of opening and upgrading never apply.
+-- crash leaves what it could have left before, or the founded campaign (`FailsToFound`). Store comes of a connection
+-- that isn't ready, or of an error of the write (`RefusesToWrite`). With Memory the connection is unchanged, or a call
+-- of the write ran out of memory (`LacksMemory`). What a call gave is known on a clean disk alone. Causes of opening
+-- and upgrading never apply.
 abbrev pub LeavesByCause : {S : Type 0} → Ghosts S → Held S → List ℕ → List ℕ → Held S → Cause → Type 0
 LeavesByCause g old text pass new (BadWorld fault) = new ≡ old
 LeavesByCause g old text pass new BadPassText = new ≡ old
@@ -105,8 +106,7 @@ pub record RefusesFounding {S : Type 0} (g : Ghosts S) (old : Held S) (text pass
   pub cause : MayBeCause text pass (has_campaign old.schema) why
   -- founding leaves what its cause allows (`LeavesByCause`)
   pub leaves : LeavesByCause g old text pass new why
-  -- a disk that isn't clean stays so, no failure of it is forgotten, and reads that are compared with digests stay so
-  -- (`IsLater`)
+  -- a disk that isn't clean stays so, no failure is forgotten, and reads compared with digests stay so (`IsLater`)
   pub later : IsLater (state g old) (state g new)
 
 -- What founding builds before it writes: `w` is the world of the text, and `c` the campaign founded in it with the pass

@@ -29,8 +29,7 @@ pub record Opens {S : Type 0} (g : Ghosts S) (old : Held S) (made : ServiceValue
   -- If the disk is clean, nothing is changed while the connection is open, and a crash leaves what it could have left
   -- before (`Survives`). The connection is in a transaction exactly if it was in one (`LeavesAlone`).
   pub alone : LeavesAlone g old made.conn
-  -- a disk that isn't clean stays so, no failure of it is forgotten, and reads that are compared with digests stay so
-  -- (`IsLater`)
+  -- a disk that isn't clean stays so, no failure is forgotten, and reads compared with digests stay so (`IsLater`)
   pub later : IsLater (state g old) (state g made.conn)
 
 -- Opening returns the text, world and campaign that were stored. This holds if the disk is clean and the tables held a
@@ -63,6 +62,5 @@ pub record RefusesOpening {S : Type 0} (g : Ghosts S) (old : Held S) (why : Caus
   -- If the disk is clean, nothing is changed while the connection is open, and a crash leaves what it could have left
   -- before (`Survives`). The connection is in a transaction exactly if it was in one (`LeavesAlone`).
   pub alone : LeavesAlone g old new
-  -- a disk that isn't clean stays so, no failure of it is forgotten, and reads that are compared with digests stay so
-  -- (`IsLater`)
+  -- a disk that isn't clean stays so, no failure is forgotten, and reads compared with digests stay so (`IsLater`)
   pub later : IsLater (state g old) (state g new)

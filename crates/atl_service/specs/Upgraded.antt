@@ -51,6 +51,5 @@ pub record RefusesUpgrade {S : Type 0} (g : Ghosts S) (old : Held S) (text : Lis
   -- connection is open, and a crash leaves what it could have left before, or the upgraded campaign
   -- (`RefusesToUpgrade`).
   pub refused : RefusesToUpgrade g text old new fault
-  -- a disk that isn't clean stays so, no failure of it is forgotten, and reads that are compared with digests stay so
-  -- (`IsLater`)
+  -- a disk that isn't clean stays so, no failure is forgotten, and reads compared with digests stay so (`IsLater`)
   pub later : IsLater (state g old) (state g new)

@@ -65,16 +65,18 @@ kept-with u money items more all = record {
 
 -- ---- what passing on does
 
--- Campaign `d` is campaign `c` after something of unit `n` was passed on. It is steady, and of the same month and
--- units; unit `n` is unchanged, and nothing is taken from any unit (`IsKept`). The total of each thing is above the
--- books by `owing` more than before, and the books moved by at most `book_bound`.
+-- Campaign `d`, a steady one, is campaign `c` after something of unit `n` was passed on, while unit `n` still has it.
 pub record PassesOn (w : WorldValue) (n : ℕ) (owing : Thing → ℕ) (book_bound : BookBound) (c d : CampaignValue) : Type 0 where
   pub steady : IsSteady w d
+  -- the total of each thing is above its books by `owing` of it more than before
   pub owes : (s : Thing) (x : ℕ) → Owes c s x → Owes d s (x + owing s)
+  -- no amount of the books moves further than its bound
   pub near : (e : BooksEntry) (s : Thing) → IsNear (book_bound e s) (amount_in c.books e s) (amount_in d.books e s)
   pub same : IsSameMonth c d
   pub unit : get d.units n ≡ get c.units n
+  -- each unit of `c` is in `d`, and nothing is taken from it
   pub forth : Every (λ m u. (v : Unit) × (get d.units m ≡ Some v) × IsKept u v) c.units
+  -- each unit of `d` was in `c`, and nothing was taken from it
   pub back : Every (λ m v. (u : Unit) × (get c.units m ≡ Some u) × IsKept u v) d.units
 
 -- a steady campaign left as it is passes on nothing, and its books don't move

@@ -78,8 +78,8 @@ module _ {V : Type 0} (p : V → Bool) where
       there [] least k h = absurd h
       there (n ∷ ns) least k h = let l = least n (inl refl) in λ zero. absurd (omega (arith, zero, l))
 
-  -- if the same numbers pass the test in two maps, whose numbers begin at 1, the first of them is the same in both, or
-  -- none
+  -- if the same numbers pass the test in maps m and o, whose numbers begin at 1, the first of them is the same in both,
+  -- or none
   pub same_first : (m o : FinMap nat_cmp V) → Every (λ k v. 1 ≤ k) m → Every (λ k v. 1 ≤ k) o
       → ((k : ℕ) → PassesIn o k → PassesIn m k) → ((k : ℕ) → PassesIn m k → PassesIn o k)
       → first_or_zero (numbers_where p m) ≡ first_or_zero (numbers_where p o)
@@ -154,13 +154,13 @@ module _ (m : ReceiverMap) (n : ℕ) (u : Unit) (es : List (ℕ × Unit)) (low :
           → or_if_zero (unwrap_or (cond ((k && (x == 0)) && (p && q)) (Some n) o) 0) next ≡ or_if_zero (unwrap_or o 0) (cond (p && (q && k)) n next)
       goes_on p q k o x next same = grind (arith, nat_tests, low)
 
--- Before any unit is noted the map is empty. Then the receiver in it, else the first that receives of all units, is the
--- campaign's receiver, for each faction and region.
+-- Before any unit is noted the map m is empty. Then the receiver in it, else the first that receives of all units, is
+-- the campaign's receiver, for each faction and region.
 pub nothing_noted : (c : CampaignValue) (m : ReceiverMap) → m ≡ empty → (r f : ℕ)
     → or_if_zero (receiver_in m r f) (first_or_zero (numbers_among (receives r f) (entries c.units))) ≡ receiver c r f
 nothing_noted c m none r f = rw (none, get-empty nat_cmp r, get-empty nat_cmp f) refl
 
--- Once all units are noted, and none is to come, the map has the receivers of the campaign. For this the one in the
+-- Once all units are noted, and none is to come, the map m has the receivers of the campaign. For this the one in the
 -- map, else the first that receives of the units to come, is the campaign's, for each faction and region.
 pub all_noted : (c : CampaignValue) (m : ReceiverMap)
     → ((r f : ℕ) → or_if_zero (receiver_in m r f) (first_or_zero (numbers_among (receives r f) [])) ≡ receiver c r f)

@@ -141,8 +141,8 @@ module _ (w : WorldValue) (c : CampaignValue) (n i : ℕ) (m : Market) (r : Regi
       added : (b : Bool) (x : ℕ) (z : ℤ) → pos x ≡ z → pos (x + cond b more 0) ≡ z +ℤ cond b (pos more) (pos 0)
       added b x z e = grind (arith, ints, e)
 
-  -- New goods of a market of region `n` keep a steady campaign steady and its books balanced, and book at most
-  -- 999,999,999 of its item.
+  -- New goods of a market of region `n` keep a steady campaign steady and of the same month, and its books balanced.
+  -- They book at most 999,999,999 of its item as Stocked, and nothing else.
   pub market_leaves_well : LeavesWell IsSteady (moves_only most_amount Stocked (Item i)) w c (after_market_restock n c (i, m))
   unfolding after_market_restock
   market_leaves_well =
@@ -163,7 +163,7 @@ IsMarketOf w n i m = (market_of w n i ≡ Some m) × IsMarket (length w.items) i
 -- `n` is the number of a region of the world
 module _ (w : WorldValue) (n : ℕ) (there : HasValue w.regions n) where
   -- New goods of a market of the region (`IsMarketOf`), given as `x.1` with its item `x.0`, keep a steady campaign
-  -- steady and its books balanced. They book at most 999,999,999 of the item, and nothing else.
+  -- steady and of the same month, and its books balanced. They book at most 999,999,999 of the item, and nothing else.
   pub one_leaves_well : (c : CampaignValue) (x : ℕ × Market) → IsMarketOf w n x.0 x.1 → IsSteady w c
       → LeavesWell IsSteady (moves_only most_amount Stocked (Item x.0)) w c (after_market_restock n c x)
   one_leaves_well c x of steady = let (r, here) = (steady.known.regions n).1 there in market_leaves_well w c n x.0 x.1 r here of.0 of.1 steady
@@ -182,7 +182,7 @@ none_there = entries-empty
 
 -- `n` is the number of a region, which the world may have or not
 module _ (w : WorldValue) (world : IsWorld w) (n : ℕ) where
-  -- the markets of a region that the world has are those of its plan
+  -- the markets of a region that the world has are those of its plan, which is what the world says of it (`RegionPlan`)
   pub markets_there : (p : RegionPlan) → get w.regions n ≡ Some p → markets_of w n ≡ p.markets
   markets_there p is = ap (λ o. option_map_or (λ (q : RegionPlan). q.markets) o empty) is
 
@@ -192,14 +192,15 @@ module _ (w : WorldValue) (world : IsWorld w) (n : ℕ) where
       ap (λ o. after_restock n c (entries (option_map_or (λ (q : RegionPlan). q.markets) o empty))) is
       ∙ ap (after_restock n c) none_there
 
-  -- each entry of a region's markets in the world is an item and the market for it
+  -- each market of a region of the world, listed with its item, is the market for this item, and keeps the rules of
+  -- markets
   pub markets_are : (p : RegionPlan) → get w.regions n ≡ Some p → EachEntry (IsMarketOf w n) (entries p.markets)
   markets_are p is =
       each-from_every (IsMarketOf w n) p.markets
       (λ i m at. (ap (λ o. option_and_then (λ (q : RegionPlan). get q.markets i) o) is ∙ at, (world.regions n p is).markets i m at))
 
-  -- Restocking a region keeps a steady campaign steady and its books balanced, and books at most 999,999,999 of each
-  -- item.
+  -- Restocking a region keeps a steady campaign steady and of the same month, and its books balanced. It books at most
+  -- 999,999,999 of each item as Stocked, and nothing else.
   pub restocked_leaves_well : (c : CampaignValue) → IsSteady w c
       → LeavesWell IsSteady (stocks_by most_amount) w c (after_restock n c (entries (markets_of w n)))
   restocked_leaves_well c steady = by_plan (get w.regions n) refl

@@ -124,8 +124,8 @@ module _ (w : WorldValue) (c : CampaignValue) (n : ℕ) (r : Region) (born earne
       (booked-near one_booked Income Money (pos earned) most_amount (within-pos earned most_amount m) e t))
 
   -- Births and income that leave a region at most 999,999,999 peasants and as much money keep a steady campaign steady
-  -- and its books balanced. Births of people and Income of money move by at most 999,999,999 each (`grows_by`), and no
-  -- other amount does.
+  -- and of the same month, and its books balanced. Births of people and Income of money move by at most 999,999,999
+  -- each (`grows_by`), and no other amount does.
   pub growth_leaves_well : r.peasants + born ≤ most_amount → r.money + earned ≤ most_amount → IsSteady w c
       → LeavesWell IsSteady (grows_by most_amount) w c (with_growth c n r.peasants r.money born earned)
   growth_leaves_well p m steady = record {
@@ -171,8 +171,8 @@ limits_fit w n t world is = terrain_in w (get w.regions n) t world is
 
 -- ---- the season of a region, and of all
 
--- The births and the income of a region keep a steady campaign steady and its books balanced. They move Births of
--- people and Income of money alone, each by at most 999,999,999.
+-- The births and the income of a region keep a steady campaign steady and of the same month, and its books balanced.
+-- They move Births of people and Income of money alone, each by at most 999,999,999.
 pub region_grows_well : (w : WorldValue) → IsWorld w → (c : CampaignValue) (n word : ℕ) (t : Terrain) (r : Region)
     → terrain_of w n ≡ Some t → get c.regions n ≡ Some r → IsSteady w c
     → LeavesWell IsSteady (grows_by most_amount) w c (with_growth c n r.peasants r.money (births w.rules.growth t.peasant_limit word r.peasants) (income w.rules.income t.money_limit (r.peasants + births w.rules.growth t.peasant_limit word r.peasants) r.money))
@@ -184,8 +184,8 @@ region_grows_well w world c n word t r here is steady =
     (births_fit w.rules.growth t.peasant_limit word r.peasants peasant_limit within.peasants)
     (income_fits w.rules.income t.money_limit (r.peasants + born) r.money money_limit within.money) steady
 
--- The season of region `x.0` with its word `x.1` keeps a steady campaign steady and its books balanced. It moves only
--- Births of people, Income of money, and Stocked of each item, each by at most 999,999,999.
+-- The season of region `x.0` with its word `x.1` keeps a steady campaign steady and of the same month, and its books
+-- balanced. It moves only Births of people, Income of money, and Stocked of each item, each by at most 999,999,999.
 pub season_at_leaves_well : (w : WorldValue) → IsWorld w → (c : CampaignValue) (x : ℕ × ℕ) → IsSteady w c
     → LeavesWell IsSteady (season_moves most_amount) w c (season_at w c x)
 unfolding season_at
@@ -215,8 +215,8 @@ pub season_little : (k : ℕ) → k ≤ most_regions → (e : BooksEntry) (t : T
     → moved_times k (season_moves most_amount) e t ≤ season_moves most_moved e t
 season_little k few e t = grind (arith, few)
 
--- The season of all regions keeps a steady campaign steady and its books balanced, and moves only births, income, and
--- Stocked of each item, each by less than 10^14.
+-- The season of all regions keeps a steady campaign steady and of the same month, and its books balanced. It moves only
+-- births, income, and Stocked of each item, each by less than 10^14.
 pub season_leaves_well : (w : WorldValue) → IsWorld w → (c : CampaignValue) (words : List ℕ) → IsSteady w c
     → LeavesWell IsSteady (season_moves most_moved) w c (season w c words)
 season_leaves_well w world c words steady =

@@ -62,8 +62,8 @@ module _ (c : CampaignValue) (n : ℕ) where
 
 -- `n` is the number of the unit that is swept, and `c` is the campaign before that
 module _ (w : WorldValue) (c : CampaignValue) (n : ℕ) (steady : IsSteady w c) where
-  -- sweeping unit `n` keeps a steady campaign steady and its books balanced (`LeavesWell`), and books as lost at most
-  -- 999,999,999 of money and of each item
+  -- Sweeping unit `n` keeps a steady campaign steady and of the same month, and its books balanced (`LeavesWell`). It
+  -- books at most 999,999,999 of money and of each item as lost, and nothing else.
   pub swept_at_leaves_well : LeavesWell IsSteady (loses_by most_amount) w c (after_sweeping_unit c n)
   swept_at_leaves_well =
       by_sweeping c n (LeavesWell IsSteady (loses_by most_amount) w c) (λ some. well_unchanged (loses_by most_amount) w c steady)
@@ -157,7 +157,7 @@ module _ (c : CampaignValue) (n : ℕ) where
   pub gone_at_units : (after_sweeping_faction c n).units ≡ c.units
   gone_at_units = by_gone (λ d. d.units ≡ c.units) (λ some. refl) (λ f is none. refl)
 
-  -- sweeping a faction keeps a steady campaign steady and its books balanced, and books nothing (`LeavesWell`)
+  -- sweeping a faction keeps a steady campaign steady, its month and its balance, and books nothing (`LeavesWell`)
   pub gone_at_leaves_well : (w : WorldValue) → IsSteady w c
       → LeavesWell IsSteady moves_nothing w c (after_sweeping_faction c n)
   gone_at_leaves_well w steady = by_gone (LeavesWell IsSteady moves_nothing w c) (λ some. well_unchanged moves_nothing w c steady) (λ f is none. record {

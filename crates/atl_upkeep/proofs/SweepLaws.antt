@@ -70,7 +70,7 @@ little_lost h none money items e (Item j) = let most = items j in grind (arith, 
 
 -- ---- the unit that receives
 
--- a list whose first number isn't 0 (`first_or_zero`) isn't empty, and has this number
+-- a list `ns` whose first number isn't 0 (`first_or_zero`) isn't empty, and has this number
 pub first_listed : (ns : List ℕ) → first_or_zero ns ≢ 0 → IsListed (first_or_zero ns) ns
 first_listed [] some = absurd (some refl)
 first_listed (n ∷ ns) some = inl refl
@@ -135,8 +135,8 @@ module _ (w : WorldValue) (c : CampaignValue) (n : ℕ) (u : Unit) (is : get c.u
       within : (m a b d : ℕ) → m + a ≤ b → b ≤ d → a ≤ d
       within m a b d k l = omega arith
 
-  -- Sweeping unit `n` keeps the campaign steady and its books balanced, and books as lost at most 999,999,999 of money
-  -- and of each item (`loses_by`).
+  -- Sweeping unit `n` keeps the campaign steady and of the same month, and its books balanced. It books at most
+  -- 999,999,999 of money and of each item as lost, and nothing else (`loses_by`).
   pub swept_leaves_well : LeavesWell IsSteady (loses_by most_amount) w c swept
   swept_leaves_well =
       let only = only_reduced w passed n u there_still in

@@ -231,14 +231,14 @@ pub upkeep_at_is : (c : CampaignValue) (s : UpkeepResult) (u : Unit) → get c.u
 unfolding upkeep_at
 upkeep_at_is c s u is = ap (upkeep_in c s) is
 
--- The upkeep of a unit that can pay keeps the campaign steady and its books balanced. It moves only Upkeep of money and
--- Starved of people, each by at most 999,999,999.
+-- The upkeep of a unit that can pay keeps the campaign steady and of the same month, and its books balanced. It moves
+-- only Upkeep of money and Starved of people, each by at most 999,999,999.
 pub upkeep_at_leaves_well : (w : WorldValue) (c : CampaignValue) (s : UpkeepResult) → CanPayUpkeep w c s
     → LeavesWell IsSteady (takes_up_to most_amount) w c (upkeep_at c s)
 upkeep_at_leaves_well w c s can =
     rw (upkeep_at_is c s can.unit can.there) (unit_leaves_well w c s can.unit can.there can.spare can.steady)
 
--- the upkeep of a unit leaves each other unit as it was
+-- the upkeep of a unit leaves each other unit n as it was
 pub other_unit : (c : CampaignValue) (s : UpkeepResult) (n : ℕ) → n ≢ s.unit
     → get (upkeep_at c s).units n ≡ get c.units n
 unfolding upkeep_at
@@ -248,7 +248,7 @@ other_unit c s n apart = by_unit (get c.units s.unit)
     by_unit None = refl
     by_unit (Some u) = get-insert_other c.units s.unit n (record u { holding = after_upkeep s u.holding }) apart
 
--- if units are there as listed, and all have greater numbers than the unit of `s`, they are still so after its upkeep
+-- if the units `es` are there as listed, with greater numbers than the unit of `s`, they are still so after its upkeep
 pub each_still : (c : CampaignValue) (s : UpkeepResult) (es : List (ℕ × Unit)) → AllByRecursion (λ e. s.unit < e.0) es
     → EachEntry (λ n u. get c.units n ≡ Some u) es → EachEntry (λ n u. get (upkeep_at c s).units n ≡ Some u) es
 each_still c s [] above there = tt
@@ -328,8 +328,8 @@ module _ (w : WorldValue) (c : CampaignValue) (steady : IsSteady w c) (room : Ha
       (each-from_every (λ n u. get c.units n ≡ Some u) c.units (λ n u is. is)) steady
       (room_less (moved_times (length list) (takes_up_to most_amount)) (takes_up_to most_moved) c little room)
 
-  -- The upkeep of all units keeps a steady campaign steady and its books balanced, and moves only Upkeep of money and
-  -- Starved of people, each by less than 10^14.
+  -- The upkeep of all units keeps a steady campaign steady and of the same month, and its books balanced. It moves only
+  -- Upkeep of money and Starved of people, each by less than 10^14.
   pub upkeep_leaves_well : LeavesWell IsSteady (takes_up_to most_moved) w c (upkeep c list)
   upkeep_leaves_well =
       well_within (moved_times (length list) (takes_up_to most_amount)) (takes_up_to most_moved) w c (upkeep c list) little

@@ -90,7 +90,8 @@ after_sweeping_faction c n = if is_empty (numbers_of_faction n c.units) then wit
 
 -- ---- the phase
 
--- a campaign after the sweep: of the units without men, then of the factions that aren't gone yet, all by number
+-- A campaign after the sweep. The units without men pass on or lose what they have, and are removed. Then the factions
+-- without units are gone. Both are taken in the order of their numbers.
 abbrev pub sweep : CampaignValue → CampaignValue
 sweep c =
     let swept = fold after_sweeping_unit c (menless_units c) in
@@ -129,7 +130,8 @@ pub record IsSweptUnit (after : CampaignValue) (number : ℕ) (u : Unit) : Type 
 abbrev pub sweep_keeps : Frame
 sweep_keeps w m before after = Every (IsSweptUnit after) before.units
 
--- the specification of the sweep: it books Lost of money and of each item, each by less than 10^14
+-- The specification of the sweep. It books Lost of money and of each item, each by less than 10^14. It takes nothing
+-- from units with men, and removes the others.
 abbrev pub sweep_spec : PhaseSpec
 sweep_spec = record {
   meaning = sweep_meaning;

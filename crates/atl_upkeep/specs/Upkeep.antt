@@ -1,5 +1,5 @@
--- The phase of upkeep: a campaign after each unit paid, and its men who aren't paid for starved.
--- See docs/RULES.md, "Upkeep".
+-- The phase of upkeep: a campaign after each unit paid, and its men who aren't paid for starved. A holding is what a
+-- unit has: name, men, money, guard flag, items and days. See docs/RULES.md, "Upkeep".
 use Rattle.std.specs.Prelude.{◌≡◌, ℕ, pos, neg_ℤ, ◌-◌, ◌==◌, not, ◌++◌, Bool, List, map, filter, fold, Some, if◌then◌else◌}
 use Rattle.std.specs.FinMap.{entries, get, keys}
 use Rattle.atl_world.specs.Worlds.{WorldValue}
@@ -37,7 +37,8 @@ with_men_left left h =
 abbrev pub after_upkeep : UpkeepResult → HoldingValue → HoldingValue
 after_upkeep s h = record (with_men_left (h.men - s.starved) h) { money = h.money - s.paid }
 
--- a campaign after the upkeep of one unit, which is booked; unchanged where the unit isn't there
+-- a campaign after the upkeep of one unit: what it paid is booked as Upkeep, and who starved as Starved; unchanged
+-- where the unit isn't there
 unfoldable pub upkeep_at : CampaignValue → UpkeepResult → CampaignValue
 upkeep_at c s = at_unit c s.unit (λ u.
     let held = with_holding_at c s.unit (after_upkeep s u.holding) (Some u) in
@@ -91,6 +92,7 @@ upkeep_keeps w m before after =
     get after.units n ≡ Some (record u { holding = after_upkeep upkeep_result u.holding }))
     before.units
 
--- the specification of upkeep: it books Upkeep of money and Starved of people, each by less than 10^14
+-- the specification of upkeep: it books Upkeep of money and Starved of people, each by less than 10^14, and changes
+-- units only by their upkeep (`upkeep_keeps`)
 abbrev pub upkeep_spec : PhaseSpec
 upkeep_spec = books_money_and_people Upkeep Starved upkeep_meaning upkeep_keeps

@@ -33,7 +33,7 @@ fn note_receiver(
     Ok(())
 }
 
-/// The receivers of a campaign, from one pass over its units. AllocError without memory.
+/// The receivers of a campaign, whose units are numbered from 1. AllocError without memory.
 pub(crate) fn receivers_of(alloc: Global, campaign: &Campaign) -> Result<Receivers, AllocError>
     requires { Every (λ n u. 1 ≤ n) campaign.now.value.units }
     ensures { IfOk result (AreReceivers campaign.now.value) }

@@ -33,7 +33,8 @@ fn accepted_of(amount: u32, have: u32) -> u32
     amount.min(HOLDING_LIMIT.saturating_sub(have))
 }
 
-/// The unit that leaves the money keeps it until it is removed.
+/// Unit `to` gets the money up to its room; the rest is booked as lost, all of it where the unit
+/// isn't there. The unit that leaves the money keeps it until it is removed.
 #[tactic(auto, unfolding(crate::specs::Sweep::after_passing_money))]
 fn pass_money(campaign: &mut Campaign, to: u32, amount: u32)
     requires things { 2 ≤ campaign.old.value.books.things }
@@ -104,7 +105,8 @@ fn pass_items(
     Ok(())
 }
 
-/// Does nothing where the unit isn't there or has men.
+/// Removes a unit without men, after it passed on what it has. For any other number it does
+/// nothing.
 #[tactic(auto, unfolding(crate::specs::Sweep::after_sweeping_unit))]
 fn sweep_unit(
     alloc: Global,
@@ -147,7 +149,7 @@ fn menless_units(alloc: Global, campaign: &Campaign) -> Result<Vec<u32>, AllocEr
     Ok(list)
 }
 
-/// The receivers found before stay the right ones throughout.
+/// Sweeps the units of these numbers. The receivers found before stay the right ones throughout.
 fn sweep_units(
     alloc: Global,
     world: &World,

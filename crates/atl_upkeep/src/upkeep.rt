@@ -75,7 +75,7 @@ fn starve(
     set_people(campaign, upkeep_result.unit, left, &days)
 }
 
-/// Books nothing.
+/// Takes the money paid, and the men who starve, from the unit; books nothing, and marks no items.
 fn take_upkeep(
     alloc: Global,
     campaign: &mut Campaign,
