@@ -39,7 +39,7 @@ use Rattle.atl_world.specs.Every.{Every, HasValue}
 use Rattle.atl_campaign.proofs.GoodLaws.{AreOfFactions-empty}
 use Rattle.atl_campaign.specs.Good.{IsActive, IsRegion, AreInRange, AreAmountsWithin, AreNamed, IsPlaced, IsBuilt, AreKnown, AreOfMarkets, IsNumbered, IsOwned, is_ship, IsAboard, guards, IsSteady, IsGood}
 use Rattle.atl_world.proofs.EveryLaws.{each-from_every, every-empty, every-mapped, there-mapped}
-use Rattle.atl_campaign.proofs.AmountLaws.{sum_of_zeros_is_zero}
+use Rattle.atl_campaign.proofs.TotalLaws.{sum_of_zeros_is_zero}
 use Rattle.atl_campaign.proofs.AmountMarkLaws.{none_marked}
 use Rattle.atl_records.proofs.BookLaws.{booked-after_booking, booked-no_amounts, amount-no_amounts, AreBooks-no_amounts, AreBooks-after_booking, IsWithin-after_booking, booked_for}
 

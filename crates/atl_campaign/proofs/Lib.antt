@@ -20,7 +20,6 @@ pub mod UnitLaws
 pub mod MarkedRegionLaws
 pub mod GoodLaws
 pub mod RuleLaws
-mod AmountLaws
 pub mod MarketLaws
 pub mod StockLaws
 pub mod HoldingLaws

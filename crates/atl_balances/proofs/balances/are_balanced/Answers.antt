@@ -1,6 +1,6 @@
 use Rattle.std.proofs.Common.{rules}
 use Rattle.atl_records.specs.declared.books.Thing.TheVariants.{Item}
-use Rattle.atl_campaign.proofs.AmountLaws.{all_balance}
+use Rattle.atl_balances.proofs.AmountLaws.{all_balance}
 use Rattle.atl_balances.proofs.balances.are_balanced.Goals as goal
 
 pub returns-then-are_people_balanced : goal.returns-then-are_people_balanced

@@ -1,8 +1,7 @@
 -- Laws of items that are not in the world: their total and the sum booked of them are both 0, so they balance.
-use Rattle.std.proofs.Common.{◌≡◌, ℕ, ◌+◌, ◌<◌, ◌≤◌, List, [], ◌∷◌, length, sum_by, refl, sym, ap, ◌∙◌, inl, inr, arith}
+use Rattle.std.proofs.Common.{◌≡◌, ℕ, ◌+◌, ◌<◌, ◌≤◌, length, sym, ap, ◌∙◌, inl, inr, arith}
 use Rattle.std.specs.Prelude.{pos, unwrap_or}
 use Rattle.std.proofs.lemmas.Bool.{cases_lt}
-use Rattle.std.proofs.lemmas.List.Sums.{sum_by-cons}
 use Rattle.std.specs.Ordering.{nat_cmp}
 use Rattle.std.specs.FinMap.{FinMap, entries}
 use Rattle.atl_world.specs.Worlds.{IsWorld, WorldValue}
@@ -15,6 +14,7 @@ use Rattle.atl_records.specs.Holdings.{amount_of}
 use Rattle.atl_campaign.specs.Founding.{thing_count}
 use Rattle.atl_records.specs.Amounts.{region_amount, unit_amount}
 use Rattle.atl_campaign.specs.Totals.{total, Balances}
+use Rattle.atl_campaign.proofs.TotalLaws.{sum_of_zeros_is_zero}
 use Rattle.atl_records.specs.Books.{booked, AreBooks}
 use Rattle.atl_world.specs.Every.{EachEntry, Every}
 use Rattle.atl_campaign.specs.Good.{AreOfMarkets}
@@ -22,11 +22,6 @@ use Rattle.atl_records.proofs.BookLaws.{booked_past}
 use Rattle.atl_world.proofs.EveryLaws.{each-from_every}
 use Rattle.atl_campaign.proofs.RuleLaws.{free_from}
 use Rattle.atl_campaign.proofs.MarketLaws.{market_known}
-
-pub sum_of_zeros_is_zero : {V : Type 0} (f : V → ℕ) (es : List (ℕ × V)) → EachEntry (λ _ v. f v ≡ 0) es
-    → sum_by (λ e. f e.1) es ≡ 0
-sum_of_zeros_is_zero f [] each = refl
-sum_of_zeros_is_zero {V} f (e ∷ es) each = let more = sum_by-cons (λ (e : ℕ × V). f e.1) e es in omega (arith, more, each.0, sum_of_zeros_is_zero f es each.1)
 
 unlisted_amount_is_zero : (items : FinMap nat_cmp ℕ) (count i : ℕ) → Every (λ k amount. k < count) items → count ≤ i
     → amount_of items i ≡ 0
