@@ -15,7 +15,8 @@ use Rattle.atl_records.specs.Limits.{holding_limit}
 use Rattle.atl_world.proofs.EveryLaws.{every-insert, get-insert_other}
 use Rattle.atl_records.proofs.RemovedLaws.{every-remove, get-remove_other}
 
--- P holds of each listed amount once `amount` is set, if it held before, and holds of `amount` or this is 0
+-- P, a condition on a number and its amount, holds of each listed amount once `amount` is set, if it held before, and
+-- holds of `amount` under i or this is 0
 pub every_amount : (P : ℕ → ℕ → Type 0) (items : FinMap nat_cmp ℕ) (i amount : ℕ) → (1 ≤ amount → P i amount)
     → Every P items → Every P (with_amount_of items i amount)
 every_amount P items i amount here old = by_zero (amount == 0) refl

@@ -166,7 +166,7 @@ size_small : (o : Option Kind) → ((x : Kind) → o ≡ Some x → x.size ≤ m
 size_small None h = omega arith
 size_small (Some x) h = h x refl
 
--- if w keeps the rules of worlds, the size of each kind is at most most_size, which is also given for a kind it lacks
+-- if w keeps the rules of worlds, each kind's size is at most most_size; a kind that w lacks counts as one of this size
 pub small_size : (w : WorldValue) → IsWorld w → (kind : ℕ) → size_of w kind ≤ most_size
 small_size w world kind = size_small (slice_get w.kinds kind) (λ x is. (world.kinds kind x is).size)
 
@@ -183,7 +183,7 @@ limit_small : (o : Option Market) → ((m : Market) → o ≡ Some m → m.limit
 limit_small None h = omega arith
 limit_small (Some m) h = h m refl
 
--- if w keeps the rules of worlds, each region's largest stock of an item is at most most_amount, also without a market
+-- if w keeps the rules of worlds, an item's largest stock in a region is at most most_amount, also without a market
 pub small_limit : (w : WorldValue) → IsWorld w → (n i : ℕ) → stock_limit w n i ≤ most_amount
 small_limit w world n i =
     limit_small (market_of w n i)
