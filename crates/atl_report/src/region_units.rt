@@ -76,7 +76,8 @@ fn add_numbers(seen: &mut Numbered<()>, numbers: &[u32]) -> Result<(), AllocErro
     Ok(())
 }
 
-/// Goes over the units that are seen and no others, so a view costs no more than it shows.
+/// The numbers of `own`, and of the lists in `levels` whose level is at most `observation`. It goes
+/// over the units that are seen and no others, so a view costs no more than it shows.
 pub(crate) fn numbers_seen(
     alloc: Global,
     own: &[u32],

@@ -13,15 +13,15 @@ use atl_world::{Item, Kind, Market, RegionPlan, World};
 use std::alloc::{AllocError, Global};
 use std::fmt::Write;
 
-/// A part of a view that has a text in reports; the world gives the names in the text.
+/// What in a view has a text in reports; the world gives the names in the text.
 trait InReport {
     ghost use Rattle.std.specs.Prelude.{List, ℕ};
     ghost use Rattle.atl_world.specs.Worlds.{WorldValue};
 
-    // The text of the part; the world gives the names in it.
+    // The text; the world gives the names in it.
     ghost text: { WorldValue → Self → List ℕ };
 
-    /// Writes the text of the part at the end of `out`.
+    /// Writes the text at the end of `out`, or some of it where memory runs out (AllocError).
     fn write(&self, out: &mut String, world: &World) -> Result<(), AllocError>
         ensures { OnOk result (string_bytes out.new
             ≡ string_bytes out.old ++ text world.now self.now) };
@@ -357,8 +357,8 @@ impl InReport for RegionView {
     }
 }
 
-/// The text of a report on a view, with the faulty lines of the faction's mailing and those of the
-/// events that are its own. The names in it come from `world`; what that doesn't have is left out.
+/// The text of the report to a view's faction, with the given faulty lines and those of the events
+/// that are its own. The names in it come from `world`; what that doesn't have is left out.
 /// AllocError without memory. See docs/FORMATS.md, "Reports".
 #[tactic(auto, unfolding(crate::specs::Report::report_of))]
 pub fn report_text(
