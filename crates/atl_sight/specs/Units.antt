@@ -18,7 +18,7 @@ use Rattle.atl_sight.specs.declared.views.Side.TheVariants.{Own, Other}
 abbrev pub shown_name : Option Faction → List ℕ
 shown_name faction = option_map_or (λ f. f.name) faction []
 
--- the view of an item that an own unit holds: its index in the world, and how many pieces
+-- `item_view (item, amount)`: the view of an item that an own unit holds: its index in the world, and how many pieces
 abbrev pub item_view : ℕ × ℕ → ItemView
 item_view (item, amount) = record { item = item; amount = amount }
 
@@ -42,7 +42,8 @@ side_of c faction u =
     if u.faction == faction then Own u.holding.money (item_views u.holding) (skill_views u.holding)
     else Other u.faction (shown_name (get c.factions u.faction))
 
--- `unit_view c faction number u`: the view that a faction has of the unit u, which it sees and which has this number
+-- `unit_view c faction number u`: the view that a faction has of the unit u of this number: name, men, whether it
+-- guards, its structure, and its side (`side_of`)
 abbrev pub unit_view : CampaignValue → ℕ → ℕ → Unit → UnitView
 unit_view c faction number u = record {
   number = number;
