@@ -138,8 +138,9 @@ pub(crate) struct ParsedHead<'a> {
     pub pass: &'a [u8],
 }
 
-/// Checks a head: its route, body length and pass text, or the problem of the first check that it
-/// fails. The spans of `fields` lie within `bytes`. Memory without memory for the routes.
+/// The first four checks of a head: its route, body length and pass text, or the problem of the
+/// first check that it fails. All that `fields` says must lie within `bytes`. Memory without memory
+/// for the routes.
 #[tactic(auto, unfolding(crate::specs::Checks::head_checks))]
 pub fn head_checks<'a>(
     alloc: Global,

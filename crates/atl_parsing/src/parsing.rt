@@ -135,8 +135,8 @@ fn progress_in(
     }
 }
 
-/// The verdict on the bytes so far, or how many are missing: 1 while the head isn't whole, then as
-/// many as the body lacks. AllocError without memory for the routes or the request.
+/// The final verdict on the bytes so far, or how many are missing at least: 1 while the head isn't
+/// whole, then as many as the body lacks. AllocError without memory for the routes or the request.
 pub fn progress_of(alloc: Global, seen: &[u8]) -> Result<Progress, AllocError>
     ensures { IfOk result (ComesTo seen.now) }
 {
