@@ -35,9 +35,7 @@ AreLevels w c region levels = (level : ℕ) → list_of levels level ≡ units_h
 -- What `lists` has is right: the lists of structures, if they are there, and each region's lists by hiding level.
 -- Structures may have no lists (None), and so may a region's units: a view makes the lists that it lacks.
 pub record AreRegionLists (w : WorldValue) (c : CampaignValue) (lists : RegionLists) : Type 0 where
-  -- if there are lists of structures, each region's has the numbers of its structures, sorted
   pub sites : IfSome lists.sites (AreSites c.structures)
-  -- each region that has lists of units has its units there, by hiding level
   pub levels : Every (AreLevels w c) lists.levels
 
 -- `with_listed lists key number`: the lists with a number added at the end of a key's list, which is empty before if
