@@ -11,8 +11,7 @@ use Rattle.sqlite_sql.specs.declared.ops.BinaryOp.TheVariants.{Compare}
 use Rattle.sqlite_sql.specs.declared.ops.CompareOp.TheVariants.{Eq}
 use Rattle.atl_descriptions.specs.declared.table.UniqueKey.{UniqueKey}
 
--- the list of a table's unique keys that the key, if there is one, makes: this key alone, by the indexes of its columns
--- in a stored row (0 is the rowid); no key for None
+-- the unique keys of a table that has this one or none, by the indexes of their columns in a stored row (0: the rowid)
 abbrev pub unique_columns : Option UniqueKey → List (List ℕ)
 unique_columns None = []
 unique_columns (Some key) = key.columns.now ∷ []

@@ -80,7 +80,7 @@ unit_table = table 4 (codes "unit")
     (Some 0) (0 ∷ []) [] []
 
 -- The table `has`: items and days of study of units. A row says how much (`amount`) a unit has of an item, or how many
--- days in a skill. Its key is the unit, `sort` (0 for an item, 1 for a skill), and the item's or skill's number `thing`.
+-- days in a skill. Its key is the unit, `sort` (0 for an item, 1 for a skill), and the number `thing` of item or skill.
 abbrev pub has_table : Table
 has_table = table 5 (codes "has")
     (integer_column (codes "unit") ∷ integer_column (codes "sort") ∷ integer_column (codes "thing") ∷ integer_column (codes "amount") ∷ [])

@@ -31,8 +31,8 @@ fn add_value(found: FieldLookup, value: Span) -> FieldLookup
     }
 }
 
-/// Whether no field, exactly one, and then where its value is, or several fields have this name,
-/// ignoring ASCII case.
+/// Says whether no field has this name, exactly one (and where in `bytes` its value is), or
+/// several, ignoring ASCII case.
 #[tactic(auto, unfolding(crate::specs::Fields::values_of))]
 pub fn find_value(bytes: &[u8], fields: &[HeaderSpan], name: &[u8]) -> FieldLookup
     requires { All (IsHeaderWithin (length bytes.now)) fields.now }

@@ -46,8 +46,7 @@ abbrev pub measure_of : Measure → WorldValue → ℕ → ℕ
 measure_of Weight w item = weight_of w item
 measure_of Carry w item = carry_of w item
 
--- the weight of a unit's goods, or the weight that they carry, as the measure says: amount times weight (or carry),
--- summed over the items that the unit holds
+-- the weight of a unit's goods, or what they carry, by the measure: amount times weight (or carry), over all its items
 abbrev pub goods_measure : Measure → WorldValue → HoldingValue → ℕ
 goods_measure m w h = sum_by (λ e. e.1 * measure_of m w e.0) (entries h.items)
 

@@ -43,8 +43,7 @@ pub fn level_in(holding: &Holding, skill: u16) -> u32
     level(holding.days_of(u32::from(skill)), holding.men())
 }
 
-/// The level, from 0 to 5, of a unit's men in a skill; 0 without men, or if no skill is named. It
-/// takes no memory.
+/// The level, from 0 to 5, of a unit's men in a skill; 0 for no skill or men. It takes no memory.
 pub fn level_in_any(holding: &Holding, skill: Option<u16>) -> u32
     ensures value { result ≡ level_in_any holding.now skill }
     ensures small { result ≤ last_level }

@@ -52,8 +52,7 @@ with_numbers seen (n ∷ ns) = with_numbers (insert seen n tt) ns
 abbrev pub with_level : ℕ → FinMap nat_cmp (Prim.Unit {0}) → ℕ → List ℕ → FinMap nat_cmp (Prim.Unit {0})
 with_level observation seen level ns = if nat_le level observation then with_numbers seen ns else seen
 
--- the set of numbers with those of each list added whose hiding level, which is paired with it, is at most the given
--- level of observation
+-- the set of numbers with those of each list added that is paired with a hiding level of at most `observation`
 abbrev pub with_levels : ℕ → FinMap nat_cmp (Prim.Unit {0}) → List (ℕ × List ℕ) → FinMap nat_cmp (Prim.Unit {0})
 with_levels observation seen [] = seen
 with_levels observation seen (e ∷ es) = with_levels observation (with_level observation seen e.0 e.1) es

@@ -96,8 +96,9 @@ pub(crate) fn numbers_seen(
     Ok(seen)
 }
 
-/// The numbers of the units that the watching faction sees in the watched region; `own` has those
-/// of its own there. The region's units by hiding level are made here where `levels` hasn't them.
+/// The numbers of the units that the watching faction sees in the watched region; `own` must have
+/// those of its own there. `levels` must have right lists, by hiding level, of the regions that it
+/// has; if the watched region isn't among them, its lists are made here.
 pub(crate) fn units_seen(
     alloc: Global,
     world: &World,

@@ -96,8 +96,7 @@ fn write_inside(out: &mut String, structure: u32) -> Result<(), AllocError>
     write!(out, ", in {structure}")
 }
 
-/// The amount and the name of an item that an own unit holds, as in `, 5 wood`; nothing for an item
-/// that the world doesn't have.
+/// An item of an own unit, as in `, 5 wood`; nothing for one that the world doesn't have.
 impl InReport for ItemView {
     ghost text = { item_text };
 
@@ -112,8 +111,8 @@ impl InReport for ItemView {
     }
 }
 
-/// The name of a skill of an own unit with its level and days, as in `, sailing 1 (30)`; nothing
-/// for a skill that the world doesn't have.
+/// A skill of an own unit with level and days, as in `, sailing 1 (30)`; nothing for one that the
+/// world doesn't have.
 impl InReport for SkillView {
     ghost text = { skill_text };
 

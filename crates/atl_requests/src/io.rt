@@ -1,5 +1,6 @@
 //! Reads a request in pieces from a reader, and writes a reply to a writer. See docs/FORMATS.md,
-//! "For developers".
+//! "For developers". `room` is the buffer of a read, of 8,192 bytes, `seen` are the bytes read so
+//! far, and `reads` and `writes` count the calls.
 ghost use Rattle.std.specs.Prelude.{◌≡◌, ◌≤◌, ◌+◌, [], length, IfOk, OnOk};
 ghost use Rattle.atl_parsing.specs.Heads.{most_at_once, IsShortBy, ComesTo};
 ghost use Rattle.atl_requests.specs.Calls.{most_reads, no_reads, GoesOn, EndsReading, no_writes, EndsWriting};

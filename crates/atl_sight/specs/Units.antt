@@ -42,8 +42,7 @@ side_of c faction u =
     if u.faction == faction then Own u.holding.money (item_views u.holding) (skill_views u.holding)
     else Other u.faction (shown_name (get c.factions u.faction))
 
--- `unit_view c faction number u`: the view that a faction has of the unit u of this number: name, men, whether it
--- guards, its structure, and its side (`side_of`)
+-- `unit_view c faction number u`: the view that a faction has of the unit u, which it sees and which has this number
 abbrev pub unit_view : CampaignValue → ℕ → ℕ → Unit → UnitView
 unit_view c faction number u = record {
   number = number;

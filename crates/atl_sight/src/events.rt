@@ -101,9 +101,8 @@ fn write_results(
     Ok(())
 }
 
-/// Writes `Orders:` at the end of `out`, then the mailing's faulty lines and those of the events
-/// that are the faction's own, or `None.` without either. AllocError without memory; `out` may then
-/// have some of it.
+/// Writes `Orders:` at the end of `out`, then the mailing's faulty lines and the faction's own
+/// events, or `None.` without either. After an AllocError `out` may have some of it.
 #[tactic(auto, unfolding(crate::specs::Events::orders_part))]
 pub fn write_orders(
     out: &mut String,

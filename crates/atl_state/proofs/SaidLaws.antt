@@ -105,7 +105,7 @@ pub record RowsKeep (f : Format) (w : WorldValue) (p : Parts) : Type 0 where
   pub held : list_all (is_of_unit (campaign_of w p)) p.has ≡ true
   -- rule 4: each row of `market` is of a market of the world
   pub stocked : list_all (is_of_market w) p.markets ≡ true
-  -- rule 6: each skill of a unit has days within their bounds
+  -- rule 6: each skill that is listed of a unit has at least 1 day, and at most 450 for each of its men
   pub days : AreDays (campaign_of w p)
   -- rule 11: each row of the table `books` is of an entry of the format and a thing of the world
   pub booked : list_all (is_booked f w) p.books ≡ true

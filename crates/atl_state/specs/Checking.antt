@@ -91,8 +91,7 @@ Checks f w p (Ok c) = IsChecked f w p c
 Checks f w p (Err (Damaged r)) = IsFirstBroken f w p r
 Checks f w p (Err Memory) = ⊤
 
--- If the rows are those of a good campaign d that the format can hold, the answer is d or Memory: Ok has no other
--- campaign, and Damaged comes only where there is no such d.
+-- if the rows are those of a good campaign d that the format can hold, the answer is d or Memory
 abbrev pub GivesBack : Format → WorldValue → Parts → Result MarkedCampaign CheckFault → Type 0
 GivesBack f w p (Ok c) = (d : CampaignValue) → IsGood w d → Fits f d → AreRowsOf f d p → c.value ≡ d
 GivesBack f w p (Err (Damaged r)) = (d : CampaignValue) → IsGood w d → Fits f d → ¬ (AreRowsOf f d p)

@@ -10,9 +10,8 @@ use Rattle.atl_campaign.specs.Campaign.{CampaignValue}
 use Rattle.atl_campaign.specs.Good.{guards}
 use Rattle.atl_world.specs.Every.{EachEntry}
 
--- structure n has no owner (0), or its owner is a unit inside it
+-- structure n has no owner (0), or its owner is a unit of the campaign that is inside it
 pub record HasOwnerInside (c : CampaignValue) (n : ℕ) (s : Structure) : Type 0 where
-  -- if the structure's owner isn't 0, it is a unit of the campaign that is inside the structure
   pub owned : s.owner ≢ 0 → (u : Unit) × (get c.units s.owner ≡ Some u) × (u.structure ≡ n)
 
 -- the faction of unit n, if the unit exists and guards its region, else None

@@ -174,8 +174,7 @@ fn keeps_known(world: &World, parts: &Parts, campaign: &Campaign) -> bool
     are_known(world, campaign) && are_goods_known(world, parts, campaign)
 }
 
-/// `rows` are all rows, and keep rules 1 to 10; `parts` lacks those of units, mail and reports,
-/// which the campaign took.
+/// All `rows` keep rules 1 to 10; `parts` are these without those of units, mail and reports.
 fn keeps_books(format: Format, world: &World, parts: &Parts, campaign: &Campaign) -> bool
     ghost rows: { Parts }
     requires what { campaign.now.value ≡ campaign_of world.now rows }
@@ -193,8 +192,7 @@ fn keeps_mail(campaign: &Campaign) -> bool
     are_mailings(campaign) && are_reported(campaign)
 }
 
-/// `rows` are all rows, and keep rules 1 to 3; `parts` lacks those of units, mail and reports,
-/// which the campaign took.
+/// All `rows` keep rules 1 to 3; `parts` are these without those of units, mail and reports.
 fn check_rules_4_to_7(
     world: &World,
     parts: &Parts,
@@ -222,8 +220,7 @@ fn check_rules_4_to_7(
     Ok(())
 }
 
-/// `rows` are all rows, and keep rules 1 to 7; `parts` lacks those of units, mail and reports,
-/// which the campaign took.
+/// All `rows` keep rules 1 to 7; `parts` are these without those of units, mail and reports.
 fn check_rules_8_to_12(
     world: &World,
     parts: &Parts,
