@@ -1,4 +1,5 @@
-//! Serves one request: reads it, runs its command, and writes the reply.
+//! Serves one request: reads it, runs its command, and writes the reply. `outcome` is the final
+//! verdict on the request: the problem for which it is refused, or what it asks for.
 ghost use Rattle.std.specs.Prelude.{◌≡◌, IfOk, OnErr};
 ghost use Rattle.std.specs.FinMap.{len};
 ghost use Rattle.atl_requests.specs.Calls.{no_reads, no_writes, EndsBy};

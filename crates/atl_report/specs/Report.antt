@@ -154,8 +154,7 @@ exits_text p = codes "Exits: " ▸ joined_or_none (exit_texts p) ▸ codes ".\n"
 unfoldable pub exits_line : WorldValue → RegionView → List ℕ
 exits_line w r = option_map_or exits_text (get w.regions r.number) []
 
--- the line of a market: the item's name, the stock with the price for units that buy, and how many pieces are wanted,
--- with what is paid for one
+-- the line of a market: its item, its stock with the price of one, and how many it wants with what it pays for one
 abbrev pub market_text : MarketView → Market → Item → List ℕ
 market_text e m item =
     codes "Market " ▸ item.name
@@ -190,8 +189,7 @@ region_parts w = each_text (region_part w)
 
 -- ---- the whole
 
--- the text of the report to a view's faction: its first line, the given faulty lines, those of the events that are the
--- faction's own (`None.` if there is neither), and all regions of the view
+-- the report to a view's faction: its first line, the given faulty lines, its own of the events, and the view's regions
 unfoldable pub report_of : WorldValue → View → List FaultyLine → List Event → List ℕ
 report_of w v faults events = header_line v ▸ orders_part v.faction faults events ▸ region_parts w v.regions
 

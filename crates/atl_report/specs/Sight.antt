@@ -97,8 +97,7 @@ region_views w c faction =
     map (λ e. region_view w c (watch_over w c faction e.0) e.1)
     (filter (λ e. sees_region c faction e.0) (entries c.regions))
 
--- all that a faction sees of a campaign: the month last closed, its own number and name (empty where there is no such
--- faction), and the regions that it sees
+-- what a faction sees: the month last closed, its number, its name (empty if it isn't there), and the regions it sees
 unfoldable pub view_of : WorldValue → CampaignValue → ℕ → View
 view_of w c faction = record {
   month = c.month;

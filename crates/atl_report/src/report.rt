@@ -1,4 +1,5 @@
-//! Writes the text of a report. See docs/FORMATS.md, "Reports".
+//! Writes the text of a report, at the end of `out`; after an AllocError some of it may be there.
+//! See docs/FORMATS.md, "Reports".
 ghost use Rattle.std.specs.Prelude.{◌≡◌, ◌++◌, ◌&&◌, IfOk, OnOk, [], codes, if◌then◌else◌, is_none, string_bytes};
 ghost use Rattle.std.specs.Option.{option_map_or};
 ghost use Rattle.atl_sight.specs.Each.{each_text, separated_texts};
@@ -21,7 +22,7 @@ trait InReport {
     // The text; the world gives the names in it.
     ghost text: { WorldValue → Self → List ℕ };
 
-    /// Writes the text at the end of `out`, or some of it where memory runs out (AllocError).
+    /// Writes the text at the end of `out`.
     fn write(&self, out: &mut String, world: &World) -> Result<(), AllocError>
         ensures { OnOk result (string_bytes out.new
             ≡ string_bytes out.old ++ text world.now self.now) };

@@ -65,7 +65,6 @@ abbrev pub results_text : List FaultyLine → List Event → List ℕ
 results_text [] [] = codes "None.\n"
 results_text faults events = faulty_lines faults ▸ event_lines events
 
--- the lines of a report from `Orders:` on: those of the mailing's faulty lines and then of the faction's own events, or
--- `None.` if there is neither
+-- the lines from `Orders:` on: of the mailing's faulty lines, then of the faction's own events, or `None.` for neither
 unfoldable pub orders_part : ℕ → List FaultyLine → List Event → List ℕ
 orders_part faction faults events = codes "Orders:\n" ▸ results_text faults (own_events faction events)

@@ -174,7 +174,8 @@ fn keeps_known(world: &World, parts: &Parts, campaign: &Campaign) -> bool
     are_known(world, campaign) && are_goods_known(world, parts, campaign)
 }
 
-/// All `rows` keep rules 1 to 10; `parts` are these without those of units, mail and reports.
+/// `campaign` is read from `rows`, which keep rules 1 to 10; `parts` has them but for those of
+/// units, mail and reports.
 fn keeps_books(format: Format, world: &World, parts: &Parts, campaign: &Campaign) -> bool
     ghost rows: { Parts }
     requires what { campaign.now.value ≡ campaign_of world.now rows }
@@ -192,7 +193,8 @@ fn keeps_mail(campaign: &Campaign) -> bool
     are_mailings(campaign) && are_reported(campaign)
 }
 
-/// All `rows` keep rules 1 to 3; `parts` are these without those of units, mail and reports.
+/// `campaign` is read from `rows`, which keep rules 1 to 3; `parts` has them but for those of
+/// units, mail and reports.
 fn check_rules_4_to_7(
     world: &World,
     parts: &Parts,
@@ -220,7 +222,8 @@ fn check_rules_4_to_7(
     Ok(())
 }
 
-/// All `rows` keep rules 1 to 7; `parts` are these without those of units, mail and reports.
+/// `campaign` is read from `rows`, which keep rules 1 to 7; `parts` has them but for those of
+/// units, mail and reports.
 fn check_rules_8_to_12(
     world: &World,
     parts: &Parts,
