@@ -13,7 +13,7 @@ use Rattle.atl_descriptions.specs.Tables.{Part, Goods, Books, Markets, has_table
 abbrev pub rows_with_ids_in : Table → Trees → List Row
 rows_with_ids_in table db = map (λ r. visible_row table r ++ rowid r ∷ []) (db table.tree)
 
--- how a part is read: the first format that has it, the names of the columns that are shown, and the SELECT's text
+-- how a part is read: the first format that has it, the columns' names, the text of the SELECT, and the rows it shows
 pub record PartSelect : Type 0 where
   pub since : Format
   pub names : List (List ℕ)

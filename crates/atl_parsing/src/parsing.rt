@@ -1,4 +1,4 @@
-//! Parses the bytes received so far (`seen`): a whole request, a refused one, or an unfinished one.
+//! Gives the verdict on the bytes received so far (`seen`): a request, a problem, or more to read.
 //! `front` are the first 8,192 of them, or all if fewer; `rest` are all after the head. `fields`
 //! says where in `front` or `bytes` fields are, with room for 32, and `minor` is the digit after
 //! `HTTP/1.`. See docs/FORMATS.md, "HTTP".
