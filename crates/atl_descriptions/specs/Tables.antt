@@ -255,7 +255,7 @@ pub record Begins (count keys : ℕ) (schema : Schema) : Type 0 where
 abbrev pub table_count : ℕ
 table_count = length all_tables
 
--- how many indexes the unique keys of these ten tables have: four
+-- how many indexes the unique keys of the ten tables have: four
 abbrev pub index_count : ℕ
 index_count = length all_indexes
 

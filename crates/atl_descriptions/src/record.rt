@@ -39,6 +39,7 @@ pub trait Record: Drop + Sized {
         ensures since { result.since ≡ (select_of_part part).since }
         ensures select { result.select.now ≡ (select_of_part part).select };
 
+    /// The record that has these fields.
     fn of_fields(fields: <Self::Fields as Fields>::Value) -> Self
         ensures { result ≡ of_fields fields };
 

@@ -583,7 +583,7 @@ module _ (f : Format) (w : WorldValue) (p : Parts) (k : RowsKeep f w p) where
       let some = failing_is_nonzero r.amount (not-true (is_zero r.amount) (and_parts (not (is_zero r.amount)) (is_within (books_bound p) r.amount) range).0) in
       booked_row (thing_count w) r (whole_below r.entry (omega arith)) (whole_below r.thing (omega arith)) entry.0 entry.1 there some
 
-  -- each row of `books` is read as an account and an amount (IsBooked)
+  -- each row of `books` is that of an entry and a thing of the world, with an amount that isn't 0 (IsBooked)
   pub all_booked : AllByRecursion (IsBooked (thing_count w)) p.books
   all_booked =
       each_follows_from_two (λ r. is_booked f w r ≡ true) (λ r. books_in_range (books_bound p) r ≡ true) (IsBooked (thing_count w)) its_account p.books (each_passes (is_booked f w) (λ r. is_booked f w r ≡ true) (λ r h. h) p.books k.booked)
