@@ -189,7 +189,7 @@ module _ (c : CampaignValue) (f q : ℕ) where
       all_watched (numbers_of_faction f c.units) empty false (get-empty nat_cmp q)
       ∙ ap (λ t. cond t (there q) None) (or-false (list_any (λ n. watches_in f q (get c.units n)) (numbers_of_faction f c.units)) ∙ region_is_seen_by_unit c f q)
 
--- a set that has just those numbers of a map that pass the test `t` has them in rising order
+-- a set that has just those numbers of a map that pass the test `t` has them in ascending order
 pub chosen_numbers : {V : Type 0} (m : FinMap nat_cmp V) (t : ℕ → Bool) (seen : FinMap nat_cmp (Prim.Unit {0}))
     → ((q : ℕ) → get seen q ≡ cond (t q) (option_map forget_value (get m q)) None)
     → entries seen ≡ map (λ e. (e.0, tt)) (filter (λ e. t e.0) (entries m))
@@ -203,7 +203,7 @@ chosen_numbers {V} m t seen are =
     ∙ alone_chosen (t q) (get m q))))
     ∙ entries-from_sorted nat_cmp numbers sorted
 
--- the numbers gathered from the faction's units are those of the regions that it sees, in rising order
+-- the numbers gathered from the faction's units are those of the regions that it sees, in ascending order
 pub entries-with_all_watched : (c : CampaignValue) (f : ℕ)
     → entries (with_all_watched c f (numbers_of_faction f c.units) empty)
     ≡ map (λ e. (e.0, tt)) (filter (λ e. sees_region c f e.0) (entries c.regions))
