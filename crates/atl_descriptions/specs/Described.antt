@@ -16,8 +16,8 @@ abbrev pub unique_columns : Option UniqueKey → List (List ℕ)
 unique_columns None = []
 unique_columns (Some key) = key.columns.now ∷ []
 
--- the index of the key has the name that the database gives it, "sqlite_autoindex_NAME_1" with the table's name, and
--- the number of its tree is one above that of the table
+-- The index of the key has the name that the database gives it, "sqlite_autoindex_NAME_1" with the table's name. The
+-- number of its tree is one above that of the table.
 abbrev pub IsIndexOf : Table → UniqueKey → Type 0
 IsIndexOf t key = (key.index.now ≡ codes "sqlite_autoindex_" ++ (t.name ++ codes "_1")) × (key.tree ≡ t.tree + 1)
 

@@ -119,8 +119,8 @@ LeadsToVerdict input rest checks =
     ((after : List ℕ) → verdict_with_body checks after ≡ verdict_of head after)
 
 -- If the parser found a head in the front, with room for 32 fields, the input begins with a whole head, and `rest`
--- follows (`LeadsToVerdict`). Whatever bytes come after this head, its verdict is the one by the checks of `method` and
--- `target`, which are the bytes at its spans, and of `fields`, which says where its fields are.
+-- follows (`LeadsToVerdict`). Whatever bytes come after this head, its verdict is the one by the checks of `method`,
+-- `target` and `fields`. These are the bytes at its spans, and where its fields are.
 pub finds_head : (input front method target rest : List ℕ) (headers fields : List HeaderSpan) (spans : RequestSpans)
     → front ≡ take most_head input → IsRequestWithin front headers spans × IsRequestOf front headers spans
     → length headers ≡ most_fields → method ≡ span_bytes front spans.method → target ≡ span_bytes front spans.path
@@ -136,8 +136,8 @@ finds_head input front method target rest headers fields spans e (lies, (head, a
     ∙ ap (λ l. head_checks spans.version (span_bytes l spans.method) (span_bytes l spans.path) (field_pairs l (take spans.headers headers))) e in
     (head, subst (λ l. HasHead input head l) (sym rest_is) (whole_head input headers spans head lies_front at_front room), λ after. ap (λ c. verdict_with_body c after) checked ∙ verdict_is input headers spans head after at_front)
 
--- A progress is right for an input (`ComesTo`), if the input has a whole head with `rest` after it, `checks` give the
--- verdict on this head (`LeadsToVerdict`), and the progress is right by `checks` and `rest` (`EndsAs`).
+-- If an input has a whole head with `rest` after it, and `checks` give the verdict on this head (`LeadsToVerdict`), then
+-- a progress that is right by `checks` and `rest` (`EndsAs`) is right for the input (`ComesTo`).
 pub comes_whole : (input rest : List ℕ) (checks : Result (Route × ℕ × List ℕ) Problem) (progress : Progress)
     → LeadsToVerdict input rest checks → EndsAs checks rest progress → ComesTo input progress
 comes_whole input rest checks (Ends outcome) (head, has, same) e = whole head rest has (e ∙ same rest)

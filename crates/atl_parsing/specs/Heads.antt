@@ -28,8 +28,8 @@ pub record HasHead (input : List ℕ) (head : RequestHead) (rest : List ℕ) : T
   pub fields : length head.fields ≤ most_fields
 
 -- Whatever bytes follow, the input begins with no head of at most 32 fields. Either it never begins with a head. Or
--- each head that it then begins with has more than 32 fields, and so has one that some first bytes of the input make
--- with an empty line after them.
+-- each head that it then begins with has more fields; and some first bytes of the input, with an empty line after them,
+-- are a head with more.
 abbrev pub IsRefused : List ℕ → Type 0
 IsRefused input = NeverHasRequest input ⊎ (RequestExceeds most_fields input × RequestOverflows most_fields input)
 

@@ -241,8 +241,8 @@ unchanged_amount_is_within : (z y : ℤ) (bound n more : ℕ) → y ≡ z → Is
 unchanged_amount_is_within z y bound n more e h l =
     record { most = omega (arith, ints, h.most); least = omega (arith, ints, h.least) }
 
--- if all amounts are from -bound to bound, and `more` is at least bound + n, then once n, which is not negative, is
--- booked, all are from -more to more
+-- If all amounts are from -bound to bound, and `more` is at least bound + n, then all are from -more to more once n is
+-- booked. Here n isn't negative.
 pub IsWithin-after_booking : (books : BooksValue) (e : BooksEntry) (u : Thing) (n bound more : ℕ)
     → ((f : BooksEntry) (t : Thing) → IsWithin bound (amount_in books f t)) → bound + n ≤ more
     → (f : BooksEntry) (t : Thing)

@@ -224,8 +224,8 @@ module _ {A V : Type 0} (m : FinMap nat_cmp V) (make : ℕ → V → A) where
         | false ↦ looked_up p es h.1
       ]
 
--- to look up in a map the values of those pairs (a number and its value) that pass `p`, by number, and apply `make` to
--- each, gives what `make` gives of these pairs
+-- Take the pairs of a map, each a number and its value, that pass `p`. To look up their values by number, and apply
+-- `make` to each, gives what `make` gives of these pairs.
 pub values_looked_up : {A V : Type 0} (m : FinMap nat_cmp V) (make : ℕ → V → A) (p : ℕ × V → Bool)
     → filter_map (λ (e : ℕ × Prim.Unit {0}). option_map (make e.0) (get m e.0)) (map (λ e. (e.0, tt)) (filter p (entries m)))
     ≡ map (λ e. make e.0 e.1) (filter p (entries m))

@@ -79,8 +79,8 @@ module _ (units : FinMap nat_cmp Unit) (key : Unit → ℕ) (k : ℕ) where
   list_of-with_all_keyed (n ∷ ns) lists =
       list_of-with_all_keyed ns (with_keyed key lists n (get units n)) ∙ next_keyed lists n ns (get units n) refl
 
-  -- lists to which some numbers were added, from empty lists, each to its unit's key, have under `k` the numbers, in
-  -- their order, that have a unit whose key is `k`
+  -- If numbers are added to empty lists, each to the list of its unit's key, the list of `k` then has those numbers, in
+  -- their order, that have a unit whose key is `k`.
   pub listed_by_key : (ns : List ℕ)
       → list_of (with_all_keyed units key empty ns) k ≡ filter (λ n. has_key (get units n)) ns
   listed_by_key ns = list_of-with_all_keyed ns empty ∙ ap (λ l. l ++ of_key ns) (no_lists empty refl k)
