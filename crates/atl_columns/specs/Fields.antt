@@ -25,14 +25,14 @@ strict_columns [] names = []
 strict_columns (form ∷ forms) [] = []
 strict_columns (form ∷ forms) (name ∷ names) = strict_column name (kind_of form) ∷ strict_columns forms names
 
--- the row has one value for each column, and the column's type leaves it as it is (`cast`)
+-- the row has exactly one value for each column, and the column's type leaves the value as it is (`cast`)
 abbrev pub Fits : List Column → Row → Type 0
 Fits [] [] = Unit {0}
 Fits [] (v ∷ vs) = ⊥
 Fits (c ∷ cs) [] = ⊥
 Fits (c ∷ cs) (v ∷ vs) = (cast c.kind v ≡ v) × Fits cs vs
 
--- two values, if both are there, else None
+-- the pair of two values if both are there, else None
 abbrev pub both : {X Y : Type 0} → Option X → Option Y → Option (X × Y)
 both None b = None
 both (Some x) None = None

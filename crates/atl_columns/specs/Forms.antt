@@ -8,14 +8,11 @@ use Rattle.sqlite_value.specs.Order.{Row, column}
 use Rattle.sqlite_schema.specs.declared.schema.Kind.{Kind}
 use Rattle.sqlite_schema.specs.declared.schema.Kind.TheVariants as kinds
 
--- what a column is read as: an integer, a text of UTF-8, the bytes of any text, or the bytes of a blob
+-- what a column is read as: an integer, a text of UTF-8, the bytes of a text (UTF-8 or not), or the bytes of a blob
 pub data Form : Type 0 where
-  -- an integer
   Number : Form
   Utf8Text : Form
-  -- the bytes of a text, UTF-8 or not
   TextBytes : Form
-  -- the bytes of a blob
   Bytes : Form
 
 -- the type that a STRICT table gives a column of this form
@@ -41,7 +38,7 @@ IsTypedFrom at (form ∷ forms) row = HasForm form (column row at) × IsTypedFro
 abbrev pub IsTyped : List Form → Row → Type 0
 IsTyped forms row = IsTypedFrom 0 forms row
 
--- the integer that a value is
+-- the integer that a value is, else None
 abbrev pub number_of : Value → Option ℤ
 number_of Null = None
 number_of (Int n) = Some n
@@ -49,7 +46,7 @@ number_of (Real x) = None
 number_of (Text t) = None
 number_of (Blob b) = None
 
--- the bytes of the text that a value is
+-- the bytes of the text that a value is, UTF-8 or not, else None
 abbrev pub text_of : Value → Option (List ℕ)
 text_of Null = None
 text_of (Int n) = None
@@ -57,7 +54,7 @@ text_of (Real x) = None
 text_of (Text t) = Some t
 text_of (Blob b) = None
 
--- the value if the test is true, else none
+-- the value if the test is true, else None
 abbrev pub keep_if : {X : Type 0} → Bool → X → Option X
 keep_if true x = Some x
 keep_if false x = None
@@ -66,7 +63,7 @@ keep_if false x = None
 abbrev pub if_utf8 : List ℕ → Option (List ℕ)
 if_utf8 t = keep_if (is_utf8 t) t
 
--- the text of UTF-8 that a value is
+-- the bytes of the text that a value is, if they are UTF-8, else None
 abbrev pub utf8_text_of : Value → Option (List ℕ)
 utf8_text_of Null = None
 utf8_text_of (Int n) = None
@@ -74,7 +71,7 @@ utf8_text_of (Real x) = None
 utf8_text_of (Text t) = if_utf8 t
 utf8_text_of (Blob b) = None
 
--- the bytes of the blob that a value is
+-- the bytes of the blob that a value is, else None
 abbrev pub bytes_of : Value → Option (List ℕ)
 bytes_of Null = None
 bytes_of (Int n) = None

@@ -11,16 +11,17 @@ use Rattle.sqlite_sql.specs.declared.ops.BinaryOp.TheVariants.{Compare}
 use Rattle.sqlite_sql.specs.declared.ops.CompareOp.TheVariants.{Eq}
 use Rattle.atl_descriptions.specs.declared.table.UniqueKey.{UniqueKey}
 
--- the unique keys besides the row's number, each by its columns' places in a stored row (0 is the rowid): one, or none
+-- the unique keys of a table that has this one or none, by the indexes of their columns in a stored row (0: the rowid)
 abbrev pub unique_columns : Option UniqueKey → List (List ℕ)
 unique_columns None = []
 unique_columns (Some key) = key.columns.now ∷ []
 
--- the index of the key has the name that the database gives it, and the tree after that of its table
+-- The index of the key has the name that the database gives it, "sqlite_autoindex_NAME_1" with the table's name. The
+-- number of its tree is one above that of the table.
 abbrev pub IsIndexOf : Table → UniqueKey → Type 0
 IsIndexOf t key = (key.index.now ≡ codes "sqlite_autoindex_" ++ (t.name ++ codes "_1")) × (key.tree ≡ t.tree + 1)
 
--- the index of the first unique key of a table, if it has one; its tree is the one after the table's
+-- the index of the first unique key of a table, None if it has no such key; its tree's number is one above the table's
 abbrev pub index_of : Table → Option Index
 index_of t = option_map (λ key. automatic t 0 key (t.tree + 1)) (slice_get t.uniques 0)
 

@@ -13,13 +13,10 @@ use Rattle.atl_descriptions.specs.Tables.{Part, Goods, Books, Markets, has_table
 abbrev pub rows_with_ids_in : Table → Trees → List Row
 rows_with_ids_in table db = map (λ r. visible_row table r ++ rowid r ∷ []) (db table.tree)
 
--- how a part is read: the first format that has it, the names of the columns, the SELECT, and the rows that it shows
+-- how a part is read: the first format that has it, the columns' names, the text of the SELECT, and the rows it shows
 pub record PartSelect : Type 0 where
-  -- the first format that has the part
   pub since : Format
-  -- the names of the columns that the SELECT shows
   pub names : List (List ℕ)
-  -- the text of the SELECT that reads the part
   pub select : List ℕ
   -- the rows that the SELECT shows, computed from the trees, maybe in another order
   pub in_table : Trees → List Row

@@ -31,8 +31,8 @@ abbrev pub equations : ℕ → List (List ℕ) → List (List ℕ)
 equations n [] = []
 equations n (name ∷ more) = (name ++ codes " = " ++ parameter n) ∷ equations (n + 1) more
 
--- the text of the INSERT of a row, whose values are the parameters; where a row has its key, the first `key` columns,
--- it sets that row's other columns
+-- the text of the INSERT of a row, whose values are the parameters in the order of the columns; where a row has its
+-- key, the first `key` columns, it sets that row's other columns
 abbrev pub upsert : Table → ℕ → List ℕ
 upsert t key =
     codes "INSERT INTO " ++ t.name ++ codes " (" ++ comma_list (column_names t)
@@ -85,6 +85,6 @@ RowStatements text rows sql params = (sql ≡ text) × rows params
 abbrev pub OneStatement : List ℕ → Row → Statements
 OneStatement text values = RowStatements text (λ row. row ≡ values)
 
--- the statements that make the ten tables; they have no parameters
+-- the ten statements that make the tables of the second format, one for each; they have no parameters
 abbrev pub Creations : Statements
 Creations sql params = Has (map creation_of all_parts) sql × (params ≡ [])

@@ -80,7 +80,7 @@ unit_table = table 4 (codes "unit")
     (Some 0) (0 ∷ []) [] []
 
 -- The table `has`: items and days of study of units. A row says how much (`amount`) a unit has of an item, or how many
--- days in a skill. Its key is the unit, `sort`, which tells the two apart, and the number of item or skill (`thing`).
+-- days in a skill. Its key is the unit, `sort` (0 for an item, 1 for a skill), and the number `thing` of item or skill.
 abbrev pub has_table : Table
 has_table = table 5 (codes "has")
     (integer_column (codes "unit") ∷ integer_column (codes "sort") ∷ integer_column (codes "thing") ∷ integer_column (codes "amount") ∷ [])
@@ -168,18 +168,19 @@ all_parts = Own ∷ Factions ∷ Regions ∷ Units ∷ Goods ∷ Structures ∷ 
 abbrev pub written_parts : List Part
 written_parts = Factions ∷ Reports ∷ Regions ∷ Structures ∷ Books ∷ Markets ∷ Units ∷ Goods ∷ Mail ∷ []
 
--- the part's rows are put by their key and deleted by it: any part but the campaign row
+-- the part is any but the campaign row: its rows are put by their key and deleted by it
 abbrev pub IsWrittenPart : Part → Type 0
 IsWrittenPart Own = ⊥
 IsWrittenPart part = ⊤
 
--- the part's rows come in groups: all goods of one unit, or all stocks of one region
+-- the part is goods or stocks, whose rows come in groups: all goods of one unit, or all stocks of one region
 abbrev pub IsGroupedPart : Part → Type 0
 IsGroupedPart Goods = ⊤
 IsGroupedPart Markets = ⊤
 IsGroupedPart part = ⊥
 
--- the key of the part's table is one number, and the part isn't the campaign row, whose id is always 1
+-- the key of the part's table is one number, and the part isn't the campaign row: factions, regions, units, structures,
+-- mail or reports
 abbrev pub IsNumberedPart : Part → Type 0
 IsNumberedPart Own = ⊥
 IsNumberedPart Goods = ⊥
@@ -232,8 +233,8 @@ pub record AreTables (count : ℕ) (all : List Table) : Type 0 where
   pub made_of : all ≡ take count all_tables ++ others
   pub free : AllByRecursion (λ t. t.references ≡ []) others
 
--- The list `all` is the first `keys` of the four indexes, and then others,
--- none of which makes anything unique in the first `count` of the ten tables.
+-- The list `all` is the first `keys` of the four indexes, and then others, none of which makes anything unique in the
+-- first `count` of the ten tables.
 pub record AreIndexes (count keys : ℕ) (all : List Index) : Type 0 where
   pub others : List Index
   pub made_of : all ≡ take keys all_indexes ++ others
@@ -250,11 +251,11 @@ pub record Begins (count keys : ℕ) (schema : Schema) : Type 0 where
 
 -- ---- the schema of a campaign
 
--- how many tables a campaign has: ten
+-- how many tables a campaign of the second format has: ten
 abbrev pub table_count : ℕ
 table_count = length all_tables
 
--- how many indexes the keys of the ten tables have: four
+-- how many indexes the unique keys of the ten tables have: four
 abbrev pub index_count : ℕ
 index_count = length all_indexes
 
@@ -287,8 +288,8 @@ IsFirstFormatOnly schema = schema ≡ first_tables (table_count_in First) (index
 abbrev pub all_tables_and_others : List Table → List Index → Schema
 all_tables_and_others = first_tables_and_others table_count index_count
 
--- the schema begins with the ten tables of a campaign and their indexes, and has no `views`; what follows puts no rule
--- on these tables (`Begins`)
+-- the schema begins with the ten tables of the second format and their four indexes, and has no `views`; what follows
+-- puts no rule on these tables (`Begins`)
 abbrev pub HasAll : Schema → Type 0
 HasAll = Begins table_count index_count
 

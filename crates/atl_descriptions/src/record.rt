@@ -25,7 +25,7 @@ pub trait Record: Drop + Sized {
 
     ghost to_fields: { Self → Self.Fields.Value };
 
-    /// The table, with the text that makes it and its SELECT.
+    /// The table, with its keys and check, the text that makes it, its first format and its SELECT.
     fn table() -> Table
         ensures tree { result.tree ≡ (table_of part).tree }
         ensures name { result.name.now ≡ (table_of part).name }
@@ -39,11 +39,12 @@ pub trait Record: Drop + Sized {
         ensures since { result.since ≡ (select_of_part part).since }
         ensures select { result.select.now ≡ (select_of_part part).select };
 
+    /// The record that has these fields.
     fn of_fields(fields: <Self::Fields as Fields>::Value) -> Self
         ensures { result ≡ of_fields fields };
 
     /// The record that the first columns of a row are read as; None if a value is of another form
-    /// than its column.
+    /// than its column. AllocError without memory.
     final fn read_columns(alloc: Global, row: &Row) -> Result<Option<Self>, AllocError>
         ensures ok { IfOk result (λ read. IfSome read
             (λ one. Self.Fields.encode (to_fields one) ≡ columns_from 0 (length Self.Fields.forms) row.now)) }

@@ -20,8 +20,8 @@ use Rattle.atl_parsing.specs.Replies.{problem_reply}
 use Rattle.atl_http.specs.Serving.{IsReply, RepliesWith, command_in}
 use Rattle.atl_requests.specs.Io.{MatchesReply}
 
--- The message for a problem is right for a request that is refused with this problem (`RepliesWith`). If memory ran out
--- for the message, there is none.
+-- The message for a problem is right for a request that is refused with this problem (`RepliesWith`), and the service
+-- is unchanged. If memory ran out for the message, there is none.
 pub replies_to_problem : {S : Type 0} (g : Ghosts S) (dice : Dice) (old : ServiceValue S) (outcome : FinalVerdict) (problem : Problem) (r : Result Message AllocError)
     → outcome ≡ Refused problem → IfOk r (MatchesReply (problem_reply problem)) → RepliesWith g dice old outcome r old
 replies_to_problem g dice old outcome problem (Ok message) e says =

@@ -21,11 +21,12 @@ refusal_status Gone = 403
 refusal_status TooLong = 413
 refusal_status why = 400
 
--- the reply of this status to a refusal or a fault of a command, with its name and number as JSON
+-- the reply of this status to a refusal or a fault of a command, with this name and this number as JSON
 abbrev pub failure : (status : ℕ) → (name : List ℕ) → (number : ℕ) → Reply
 failure status name number = record { status = status; allow = None; kind = json; body = error_body name number }
 
--- the reply to an answer: status 200 with what was done or the report, a refusal's status, or 500 for a fault
+-- the reply to an answer: status 200 with what was done as JSON, or with the report as plain text; for a refusal its
+-- status, name and number, and for a fault 500, its name and the number 0, as JSON
 abbrev pub answer_reply : Answer → Reply
 answer_reply (Joined faction unit) = success json (joined_body faction unit)
 answer_reply (Mailed orders faults) = success json (mailed_body orders faults)

@@ -15,7 +15,8 @@ use Rattle.atl_http.specs.Serving.{IoBytes, Serves}
 abbrev pub unknown_bytes : IoBytes
 unknown_bytes = record { left = None; held = None }
 
--- One request is served with this result, as `Serves` says of some bytes seen. Nothing ties these to the socket.
+-- One request is served with this result (`Serves`), but nothing is known of the bytes that come and go: so the service
+-- has run the command of some request, or is as before.
 abbrev pub IsServed : {S : Type 0} → Ghosts S → Dice → (old : ServiceValue S)
     → Result ℕ HttpFault → (new : ServiceValue S) → Type 0
 IsServed g dice old outcome new = Serves g dice unknown_bytes unknown_bytes old outcome new
@@ -35,8 +36,8 @@ ServesInTurn g dice zero old new = new ≡ old
 ServesInTurn {S} g dice (suc count) old new =
     (between : ServiceValue S) × ServesInTurn g dice count old between × ServesConnection g dice between (Ok tt) new
 
--- With Ok exactly `count` requests are served one after another, and with Err Net fewer. With Err Memory memory runs
--- out for the last of at most `count`.
+-- With Ok exactly `count` requests are served one after another, and with Err Net fewer, and memory runs out for none.
+-- With Err Memory memory runs out for the last of at most `count`, and for none before it.
 abbrev pub ServesEach : {S : Type 0} → Ghosts S → Dice → (count : ℕ) → (old : ServiceValue S)
     → Result (Unit {0}) ListenFault → (new : ServiceValue S) → Type 0
 ServesEach g dice count old (Ok done) new = ServesInTurn g dice count old new

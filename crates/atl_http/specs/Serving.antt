@@ -60,7 +60,8 @@ abbrev pub RepliesWith : {S : Type 0} → Ghosts S → Dice → (old : ServiceVa
 RepliesWith g dice old outcome (Ok message) new = (reply : Reply) × MatchesReply reply message × IsReply g dice old outcome reply new
 RepliesWith g dice old outcome (Err e) new = (new ≡ old) ⊎ ((reply : Reply) × IsReply g dice old outcome reply new)
 
--- The reply is right for the bytes `seen`: no more were read than needed, and the reply is that to their verdict.
+-- The reply is right for the bytes `seen`: no more were read than needed, their verdict is final, and the reply is that
+-- to their verdict (`IsReply`).
 abbrev pub RepliesTo : {S : Type 0} → Ghosts S → Dice → (old : ServiceValue S) → (seen : List ℕ)
     → Reply → (new : ServiceValue S) → Type 0
 RepliesTo g dice old seen reply new =
@@ -71,10 +72,10 @@ pub record IoBytes : Type 0 where
   pub left : Option (List ℕ)
   pub held : Option (List ℕ)
 
--- What serving one request does, by its result. With Ok the whole reply to the bytes seen (`RepliesTo`) was written,
--- and the result is its status; with WriteFault only the first part of it, perhaps nothing. With Cut and ReadFault
--- nothing was written, and the service is unchanged. With Memory nothing was written, and the command has been run or
--- not.
+-- What serving one request does, by its result. With Ok the whole reply to the bytes read (`RepliesTo`) was written,
+-- and the result is its status; with WriteFault only the first bytes of it, perhaps none. With Cut, at the end of the
+-- input, and with ReadFault more bytes were needed (`More`), nothing was written, and the service is unchanged. With
+-- Memory nothing was written, and the service is unchanged or has run the command of the bytes read.
 abbrev pub Serves : {S : Type 0} → Ghosts S → Dice → (before after : IoBytes) → (old : ServiceValue S)
     → Result ℕ HttpFault → (new : ServiceValue S) → Type 0
 Serves g dice before after old (Ok status) new =
@@ -83,7 +84,6 @@ Serves g dice before after old (Ok status) new =
     × RepliesTo g dice old seen reply new
     × (status ≡ reply.status)
     × Appends before.held after.held (bytes_of reply)
--- the input ended within the request
 Serves g dice before after old (Err Cut) new =
     (seen : List ℕ)
     × Consumes before.left after.left seen
@@ -91,17 +91,14 @@ Serves g dice before after old (Err Cut) new =
     × IsAtEnd after.left
     × Keeps before.held after.held
     × (new ≡ old)
--- the reads failed before the request was whole
 Serves g dice before after old (Err ReadFault) new =
     (seen : List ℕ) × Consumes before.left after.left seen × Judges seen More × Keeps before.held after.held × (new ≡ old)
--- the writes failed before the reply was whole
 Serves g dice before after old (Err WriteFault) new =
     (seen : List ℕ) × (reply : Reply)
     × Consumes before.left after.left seen
     × RepliesTo g dice old seen reply new
     × (count : ℕ) × (count < length (bytes_of reply))
     × Appends before.held after.held (take count (bytes_of reply))
--- there was no memory for the request, or none for its reply
 Serves g dice before after old (Err Memory) new =
     Keeps before.held after.held
     × ((new ≡ old)

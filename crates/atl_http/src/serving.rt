@@ -1,4 +1,5 @@
-//! Serves one request: reads it, runs its command, and writes the reply.
+//! Serves one request: reads it, runs its command, and writes the reply. `outcome` is the final
+//! verdict on the request: the problem for which it is refused, or what it asks for.
 ghost use Rattle.std.specs.Prelude.{◌≡◌, IfOk, OnErr};
 ghost use Rattle.std.specs.FinMap.{len};
 ghost use Rattle.atl_requests.specs.Calls.{no_reads, no_writes, EndsBy};
@@ -19,7 +20,7 @@ use std::io::{Read, Write};
 
 /// Runs the command that a request asks for, with words of the dice, and returns its answer. A join
 /// has the word for the faction that joins next, a close the words for its month, one for each
-/// region. AllocError without memory for these words: then nothing is changed.
+/// region of the world. AllocError without memory for these words: then nothing is changed.
 pub fn run_request<S: Alter>(
     alloc: Global,
     service: &mut Service<S>,
@@ -59,7 +60,7 @@ fn reply_to<S: Alter>(
 
 /// Reads one request, runs its command, writes the reply and returns its status. It counts the
 /// reads and the interrupted writes in `reads` and `writes`, which begin with none and say how both
-/// ended. A fault says why there is no reply, or only a part.
+/// ended. A fault says why there is no whole reply.
 pub fn serve_counted<R: Read, W: Write, S: Alter>(
     alloc: Global,
     reader: &mut R,
@@ -94,7 +95,7 @@ pub fn serve_counted<R: Read, W: Write, S: Alter>(
 /// Reads one request, checks it, runs its command, writes the reply, and returns the status. The
 /// words of a join and of a close are those of the dice. Once the request is whole or refused,
 /// nothing more is read. It ends after at most 1,000,000 reads, and as many writes that are
-/// interrupted. A fault says why there is no reply, or only a part. See docs/FORMATS.md, "HTTP".
+/// interrupted. A fault says why there is no whole reply. See docs/FORMATS.md, "HTTP".
 pub fn serve_one<R: Read, W: Write, S: Alter>(
     alloc: Global,
     reader: &mut R,
@@ -121,8 +122,8 @@ pub fn serve_one<R: Read, W: Write, S: Alter>(
 }
 
 /// Reads one request of a peer, runs its command, writes the reply to the peer and returns its
-/// status. A fault says why there is no reply, or only a part. The contract doesn't say which bytes
-/// are read and written, since those of a socket aren't known.
+/// status. A fault says why there is no whole reply. The contract doesn't say which bytes are read
+/// and written, since those of a socket aren't known.
 pub fn serve_peer<P: Read + Write, S: Alter>(
     alloc: Global,
     peer: &mut P,

@@ -1,6 +1,6 @@
 -- Laws on the router's rows: looking up a path in rows with a common prefix, and a number after that prefix. A row is
 -- the pattern of a route with a key. In a pattern `param_token`, which is greater than any byte, stands for a
--- parameter, which is a part of a path without a slash. `first` gives the key of the row that a path matches, or None,
+-- parameter, which is a piece of a path without a slash. `first` gives the key of the row that a path matches, or None,
 -- and `prepend` puts a prefix in front of each row. `w` is a prefix, `p` a path, `rest` what the path has after the
 -- prefix, and `t` rows, or the result of a test.
 use Rattle.std.proofs.Common.{get_or, ltb, ◌&&◌, ◌≡◌, ◌≢◌, ℕ, ◌-◌, ◌<◌, ◌⊎◌, inl, inr, List, [], ◌∷◌, ◌++◌, length, take, drop, Option, Some, None, Bool, true, false, cond, refl, sym, ap, ◌∙◌, subst, arith, nat_eq, ◌==◌}

@@ -1,7 +1,8 @@
--- Laws on heads: the result of parsing the first 8,192 bytes decides the verdict (`Judges`).
+-- Laws on heads: the result of parsing the first 8,192 bytes decides the verdict (`Judges`): Refused with a problem,
+-- Asks with a request, or More while bytes are missing. A progress is one of the first two, or how many are missing.
 -- `input` are the bytes received so far, `front` the first 8,192 of them or all if they are fewer, `more` bytes that
--- follow, and `rest` the bytes after the head. `spans` says where the parts of the head begin and end in `front`, and
--- `headers` where names and values of its fields do. `checks` is the result of the first four checks (`head_checks`).
+-- follow, and `rest` the bytes after the head. `spans` says where method and target of the head are in `front`, and
+-- `headers` where names and values of its fields are. `checks` is the result of the first four checks (`head_checks`).
 use Rattle.std.proofs.Common.{◌≡◌, ℕ, ◌≤◌, ◌<◌, List, [], ◌∷◌, ◌++◌, length, take, drop, min, sym, ap, ◌∙◌, subst, inl, inr, refl, arith}
 use Rattle.std.specs.Prelude.{Result, Ok, Err, IfOk}
 use Rattle.std.proofs.lemmas.List.{append_assoc, append-nil, take-append-drop, drop-append-le, length-take, length-map, take_min}
@@ -65,7 +66,7 @@ pub head_stays : (input more : List ℕ) (head : RequestHead) (rest : List ℕ) 
 head_stays input more head rest h =
     record { reads = ReadsRequest-append input head rest more h.reads; bytes = h.bytes; fields = h.fields }
 
--- the checks by the parts at the spans, with the bytes after the head, lead to the verdict on the head
+-- the verdict by the checks of what is at the spans, and by the bytes after the head, is the verdict on the head
 verdict_is : (input : List ℕ) (headers : List HeaderSpan) (spans : RequestSpans) (head : RequestHead) (rest : List ℕ)
     → IsRequestAt (take most_head input) headers spans head
     → verdict_with_body (head_checks spans.version (span_bytes (take most_head input) spans.method) (span_bytes (take most_head input) spans.path) (field_pairs (take most_head input) (take spans.headers headers))) rest
@@ -110,14 +111,16 @@ short_front input h none goes_on =
 
 -- ---- from the parser's result to the progress
 
--- The input has a whole head with `rest` after it, and these results of checks lead to the verdict on this head.
+-- The input begins with a whole head, and `rest` follows. Whatever bytes come after this head, the verdict by `checks`
+-- is the verdict on it.
 abbrev LeadsToVerdict : (input rest : List ℕ) → Result (Route × ℕ × List ℕ) Problem → Type 0
 LeadsToVerdict input rest checks =
     (head : RequestHead) × HasHead input head rest ×
     ((after : List ℕ) → verdict_with_body checks after ≡ verdict_of head after)
 
--- If the parser found a head in the front, with room for 32 fields, the checks of this head lead to the verdict on the
--- input (`LeadsToVerdict`). `method` and `target` are the bytes at its spans, and `fields` the spans of its fields.
+-- If the parser found a head in the front, with room for 32 fields, the input begins with a whole head, and `rest`
+-- follows (`LeadsToVerdict`). Whatever bytes come after this head, its verdict is the one by the checks of `method`,
+-- `target` and `fields`. These are the bytes at its spans, and where its fields are.
 pub finds_head : (input front method target rest : List ℕ) (headers fields : List HeaderSpan) (spans : RequestSpans)
     → front ≡ take most_head input → IsRequestWithin front headers spans × IsRequestOf front headers spans
     → length headers ≡ most_fields → method ≡ span_bytes front spans.method → target ≡ span_bytes front spans.path
@@ -133,15 +136,15 @@ finds_head input front method target rest headers fields spans e (lies, (head, a
     ∙ ap (λ l. head_checks spans.version (span_bytes l spans.method) (span_bytes l spans.path) (field_pairs l (take spans.headers headers))) e in
     (head, subst (λ l. HasHead input head l) (sym rest_is) (whole_head input headers spans head lies_front at_front room), λ after. ap (λ c. verdict_with_body c after) checked ∙ verdict_is input headers spans head after at_front)
 
--- a progress is right for an input with a whole head (`ComesTo`), if it is right by the checks of the head and the
--- bytes after it (`EndsAs`)
+-- If an input has a whole head with `rest` after it, and `checks` give the verdict on this head (`LeadsToVerdict`),
+-- then a progress that is right by `checks` and `rest` (`EndsAs`) is right for the input (`ComesTo`).
 pub comes_whole : (input rest : List ℕ) (checks : Result (Route × ℕ × List ℕ) Problem) (progress : Progress)
     → LeadsToVerdict input rest checks → EndsAs checks rest progress → ComesTo input progress
 comes_whole input rest checks (Ends outcome) (head, has, same) e = whole head rest has (e ∙ same rest)
 comes_whole input rest checks (Missing count) (head, has, same) (some, short) =
     (some, λ more few. whole head (rest ++ more) (head_stays input more head rest has) (sym (short more few) ∙ same (rest ++ more)))
 
--- the verdict on an input is BadRequest, if its first 8,192 bytes (`front`) are refused (`IsRefused`)
+-- Refused with BadRequest is right for an input, if no head of at most 32 fields can come of its first 8,192 bytes
 pub judges_refused : (input front : List ℕ) → front ≡ take most_head input → IsRefused front
     → Judges input (Refused BadRequest)
 judges_refused input front e h = refused (front_refused input (subst IsRefused e h)) refl

@@ -1,6 +1,7 @@
--- `verdict_of`: the checks of a whole head and its body, in their order. See docs/FORMATS.md, "HTTP". Of the head
--- `minor` is the digit after `HTTP/1.`, and `method` and `target` are the first two words, as `GET` and `/report/3`.
--- `rest` has the bytes after the head.
+-- `verdict_of`: the checks of a whole head and its body, in their order. See docs/FORMATS.md, "HTTP". The verdict is
+-- Refused with a problem, More while bytes of the body are missing, or Asks with the request. Of the head `minor` is
+-- the digit after `HTTP/1.`, and `method` and `target` are the first two words, as `GET` and `/report/3`. `rest` has
+-- the bytes after the head.
 use Rattle.std.specs.Prelude.{ℕ, Bool, true, false, ◌||◌, ◌==◌, nat_lt, bytes_eq, codes, if◌then◌else◌, List, [], ◌∷◌, length, take, Option, Some, None, is_some, Result, Ok, Err, option_and_then}
 use Rattle.std.specs.Str.{is_utf8}
 use Rattle.httparse.specs.Grammar.{RequestHead}
@@ -68,14 +69,14 @@ abbrev pub unless_coded : List (List ℕ) → Result ℕ Problem → Result ℕ 
 unless_coded [] size = size
 unless_coded (coding ∷ more) size = Err NoLength
 
--- the length of the body of a POST by the fields Content-Length and Transfer-Encoding, or the problem with them;
--- `optional` says that Content-Length may be missing
+-- the length of the body of a POST: NoLength if there is a field Transfer-Encoding, else what Content-Length declares
+-- (`declared_size`), or its problem; `optional` says that Content-Length may be missing
 unfoldable pub posted_size : (optional : Bool) → List Pair → Result ℕ Problem
 posted_size optional fields =
     unless_coded (values_of (codes "Transfer-Encoding") fields) (declared_size optional (values_of (codes "Content-Length") fields))
 
--- The number of body bytes that are read for a route, or the problem with it. It is 0 for a GET, and else what
--- Content-Length declares, which `/close` alone may leave out (0).
+-- The number of body bytes that are read for a route, or the problem with it. It is 0 for a GET (Report), and else what
+-- Content-Length declares, which `/close` alone may leave out (0), if there is no Transfer-Encoding.
 abbrev pub size_of : Route → List Pair → Result ℕ Problem
 size_of Join fields = posted_size false fields
 size_of (Orders faction) fields = posted_size false fields
@@ -136,8 +137,8 @@ abbrev pub verdict_on_request : Result Request Problem → Verdict
 verdict_on_request (Err problem) = Refused problem
 verdict_on_request (Ok asked) = Asks asked
 
--- the verdict on a head by its checks and the bytes after it: Refused if a check failed, More while the body isn't
--- whole, else the verdict on the request
+-- the verdict on a head by the result of its first four checks and the bytes after it: Refused if a check failed, More
+-- while the body isn't whole, else Refused or Asks by the request that route, pass text and body make
 abbrev pub verdict_with_body : Result (Route × ℕ × List ℕ) Problem → (rest : List ℕ) → Verdict
 verdict_with_body (Err problem) rest = Refused problem
 verdict_with_body (Ok (route, size, pass)) rest =
@@ -145,6 +146,6 @@ verdict_with_body (Ok (route, size, pass)) rest =
     then More
     else verdict_on_request (request_of route pass (take size rest))
 
--- the verdict on a whole head and the bytes after it
+-- the verdict on a whole head and the bytes after it: by its first four checks, and then by its body
 abbrev pub verdict_of : RequestHead → (rest : List ℕ) → Verdict
 verdict_of head rest = verdict_with_body (head_checks head.minor head.method head.target (fields_of head)) rest

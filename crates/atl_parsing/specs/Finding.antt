@@ -1,5 +1,6 @@
 -- For proofs alone: the values found under a field's name, and when results of the code agree with those of the
--- definitions. A span says where a part begins and ends among the received bytes, `bytes` or `front`.
+-- definitions. A span says where a word, a name or a value begins and ends in the received bytes, `bytes` or `front`.
+-- A verdict is Refused with a problem, Asks with a request, or More while bytes are missing.
 use Rattle.std.specs.Prelude.{◌≡◌, ◌<◌, ℕ, List, [], ◌∷◌, ◌++◌, length, map, Result, Ok, Err, ⊤}
 use Rattle.httparse.specs.declared.spans.Span.{Span}
 use Rattle.httparse.specs.declared.spans.HeaderSpan.{HeaderSpan}
@@ -55,9 +56,9 @@ EndsAs checks rest (Missing count) =
     (0 < count) × ((more : List ℕ) → length more < count → verdict_with_body checks (rest ++ more) ≡ More)
 EndsAs checks rest (Ends outcome) = as_verdict outcome ≡ verdict_with_body checks rest
 
--- The result of parsing `front` as a head is right. Whole: it has a whole head, with its parts at `spans`, and its
--- fields at the first of `fields`. Partial: it has none, but further bytes may make it one, or it ends inside a target
--- (`MayBecomeRequest`). Refused: no head of at most 32 fields can come of it (`IsRefused`).
+-- The result of parsing `front` as a head is right. Whole: it begins with a whole head, whose method and target are at
+-- `spans`, and whose fields are at the first of `fields`. Partial: it begins with none, but further bytes may make it
+-- one, or it ends inside a target (`MayBecomeRequest`). Refused: no head of at most 32 fields can come of it.
 abbrev pub ParsesHead : List ℕ → List HeaderSpan → HeadParse → Type 0
 ParsesHead front fields (Whole spans) = IsRequestWithin front fields spans × IsRequestOf front fields spans
 ParsesHead front fields Partial = HasNoRequest front × MayBecomeRequest front

@@ -1,4 +1,5 @@
--- `Judges`: the verdict on the bytes received so far, by their head: whole, unfinished, refused or too long. See
+-- `Judges`: the verdict on the bytes received so far, by their head: whole, unfinished, refused or too long. It is
+-- Refused with a problem, Asks with a request, which both are final, or More while bytes are missing. See
 -- docs/FORMATS.md, "HTTP". `input` and `seen` are the bytes received so far, and `rest` those after the head.
 use Rattle.std.specs.Prelude.{◌≡◌, ℕ, ◌≤◌, ◌<◌, ◌⊎◌, List, [], length, take, ◌++◌, ⊤}
 use Rattle.httparse.specs.Grammar.{RequestHead, print_request, ReadsRequest, NeverHasRequest, HasNoRequest, MayBecomeRequest}
@@ -20,17 +21,15 @@ most_head = 8192
 abbrev pub most_fields : ℕ
 most_fields = 32
 
--- The input begins with this whole head, within the limits of bytes and fields, and `rest` follows.
+-- The input begins with this whole head, which has at most 8,192 bytes and 32 fields, and `rest` follows.
 pub record HasHead (input : List ℕ) (head : RequestHead) (rest : List ℕ) : Type 0 where
-  -- the input begins with this whole head, and `rest` follows
   pub reads : ReadsRequest input head rest
-  -- the head has at most 8,192 bytes
   pub bytes : length (print_request head) ≤ most_head
-  -- the head has at most 32 fields
   pub fields : length head.fields ≤ most_fields
 
--- Whatever bytes follow, the input has no head of at most 32 fields. Either it never begins with a head. Or each head
--- that it then begins with has more fields, and bytes at its front, with an empty line after them, already are such.
+-- Whatever bytes follow, the input begins with no head of at most 32 fields. Either it never begins with a head. Or
+-- each head that it then begins with has more fields; and some first bytes of the input, with an empty line after them,
+-- are a head with more.
 abbrev pub IsRefused : List ℕ → Type 0
 IsRefused input = NeverHasRequest input ⊎ (RequestExceeds most_fields input × RequestOverflows most_fields input)
 
@@ -38,14 +37,11 @@ IsRefused input = NeverHasRequest input ⊎ (RequestExceeds most_fields input ×
 abbrev pub IsTooLong : List ℕ → Type 0
 IsTooLong input = (most_head ≤ length input) × HasNoRequest (take most_head input)
 
--- The head isn't whole, and may become whole with further bytes, or the input ends inside the target; fewer than 8,192
--- bytes have arrived.
+-- Fewer than 8,192 bytes have arrived, and the input doesn't begin with a whole head. Further bytes can make it one, or
+-- it ends inside the target (`MayBecomeRequest`).
 pub record IsUnfinished (input : List ℕ) : Type 0 where
-  -- fewer than 8,192 bytes have arrived
   pub short : length input < most_head
-  -- the input doesn't begin with a whole head
   pub none : HasNoRequest input
-  -- further bytes can make the input a whole head, or it ends inside the target (`MayBecomeRequest`)
   pub open_end : MayBecomeRequest input
 
 -- The verdict is right for the bytes received so far: the head is whole, too long, refused or unfinished.
@@ -60,7 +56,7 @@ pub data Judges (input : List ℕ) (verdict : Verdict) : Type 0 where
   -- the head may become whole with further bytes, or the input ends inside the target: More
   unfinished : IsUnfinished input → verdict ≡ More → Judges input verdict
 
--- The verdict needs no more bytes: the request is whole, or refused.
+-- The verdict is Refused or Asks: the request is refused or whole, and needs no more bytes.
 abbrev pub IsFinal : Verdict → Type 0
 IsFinal More = ⊥
 IsFinal (Refused problem) = ⊤
@@ -81,7 +77,7 @@ abbrev pub ComesTo : (seen : List ℕ) → Progress → Type 0
 ComesTo seen (progress.Missing count) = (0 < count) × IsShortBy seen count
 ComesTo seen (progress.Ends outcome) = Judges seen (as_verdict outcome)
 
--- the verdict of a progress: More while bytes are missing
+-- the verdict of a progress: More while bytes are missing, else the final verdict that it has
 abbrev pub verdict_by : Progress → Verdict
 verdict_by (progress.Missing count) = More
 verdict_by (progress.Ends outcome) = as_verdict outcome
@@ -90,8 +86,8 @@ verdict_by (progress.Ends outcome) = as_verdict outcome
 abbrev pub most_at_once : ℕ
 most_at_once = 8192
 
--- No read was done after the request was whole or refused: on the bytes before the last read (`front`) the verdict was
--- More, or nothing was read at all. The last read gave the bytes `last`, at most 8,192.
+-- No read was done after the request was whole or refused: nothing was read at all; or the last read gave the bytes
+-- `last`, at most 8,192, and More is a right verdict on those before it (`front`).
 abbrev pub ReadsNoFurther : List ℕ → Type 0
 ReadsNoFurther seen =
     (seen ≡ [])

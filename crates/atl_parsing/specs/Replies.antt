@@ -8,15 +8,11 @@ use Rattle.atl_parsing.specs.declared.problem.Problem.TheVariants.{BadRequest, N
 use Rattle.atl_parsing.specs.declared.route.Route.{Route}
 use Rattle.atl_parsing.specs.Routes.{method_of}
 
--- a reply: its status, the route for the line `Allow` (with 405 alone), its content type, and its body
+-- a reply: its HTTP status, the route whose method the line `Allow` names (else None), its content type, and its body
 pub record Reply : Type 0 where
-  -- the number of the HTTP status
   pub status : ℕ
-  -- the route whose method the line `Allow` names, else None
   pub allow : Option Route
-  -- the bytes of the content type
   pub kind : List ℕ
-  -- the bytes of the body
   pub body : List ℕ
 
 -- the content type of every reply but a report
@@ -41,7 +37,7 @@ head_of status kind body =
     codes "HTTP/1.1 " ▸ decimal status ▸ codes " " ▸ unwrap_or (reason_phrase status) [] ▸ codes "\r\nContent-Type: " ▸ kind
     ▸ codes "\r\nContent-Length: " ▸ decimal (length body) ▸ codes "\r\nConnection: close\r\n"
 
--- all bytes of a reply: lines, empty line, body
+-- all bytes of a reply: the status line and its fields, the line `Allow` if there is one, an empty line, and the body
 abbrev pub bytes_of : Reply → List ℕ
 bytes_of r = head_of r.status r.kind r.body ▸ allow_line r.allow ▸ codes "\r\n" ▸ r.body
 
@@ -78,7 +74,7 @@ allowed_route p = None
 unfoldable pub error_body : (name : List ℕ) → (number : ℕ) → List ℕ
 error_body name number = codes "{\"error\":\"" ▸ name ▸ codes "\",\"number\":" ▸ decimal number ▸ codes "}"
 
--- the reply to a request with this problem
+-- the reply to a request with this problem: its status and name, the number 0, and for BadMethod the line `Allow`
 abbrev pub problem_reply : Problem → Reply
 problem_reply p =
     record {

@@ -1,6 +1,7 @@
 //! Checks the head and the body of a request, in the order of docs/FORMATS.md, "HTTP". `minor` is
 //! the digit after `HTTP/1.`, and `method` and `target` are the first two words, as `GET` and
-//! `/report/3`. `fields` says where in `bytes` name and value of each field are.
+//! `/report/3`. `fields` says where in `bytes` name and value of each field are. Each check gives
+//! what its definition of the same name says, or Memory.
 ghost use Rattle.std.specs.Prelude.{◌≡◌, All, length, bytes_eq};
 ghost use Rattle.httparse.specs.Spans.{IsHeaderWithin};
 ghost use Rattle.serde_json.specs.View.{view};
@@ -138,8 +139,9 @@ pub(crate) struct ParsedHead<'a> {
     pub pass: &'a [u8],
 }
 
-/// Checks a head: its route, body length and pass text, or the problem of the first check that it
-/// fails. The spans of `fields` lie within `bytes`. Memory without memory for the routes.
+/// The first four checks of a head: its route, body length and pass text, or the problem of the
+/// first check that it fails. All that `fields` says must lie within `bytes`. Memory without memory
+/// for the routes.
 #[tactic(auto, unfolding(crate::specs::Checks::head_checks))]
 pub fn head_checks<'a>(
     alloc: Global,

@@ -1,4 +1,5 @@
-//! Looks up the header fields of a request by name. They are given as spans within `bytes`.
+//! Looks up the header fields of a request by name. `fields` says where in `bytes` the name and the
+//! value of each begin and end.
 ghost use Rattle.std.specs.Prelude.{◌≡◌, All, length, option_map};
 ghost use Rattle.std.specs.Str.{str_eq_ignore_ascii_case};
 ghost use Rattle.httparse.specs.Spans.{IsHeaderWithin};
@@ -30,7 +31,8 @@ fn add_value(found: FieldLookup, value: Span) -> FieldLookup
     }
 }
 
-/// Looks up a name among the fields of a head, ignoring ASCII case.
+/// Says whether no field has this name, exactly one (and where in `bytes` its value is), or
+/// several, ignoring ASCII case.
 #[tactic(auto, unfolding(crate::specs::Fields::values_of))]
 pub fn find_value(bytes: &[u8], fields: &[HeaderSpan], name: &[u8]) -> FieldLookup
     requires { All (IsHeaderWithin (length bytes.now)) fields.now }

@@ -1,6 +1,7 @@
-//! Parses the bytes received so far (`seen`): a whole request, a refused one, or an unfinished one.
+//! Gives the verdict on the bytes received so far (`seen`): a request, a problem, or more to read.
 //! `front` are the first 8,192 of them, or all if fewer; `rest` are all after the head. `fields`
-//! says where fields are, and `minor` is the digit after `HTTP/1.`. See docs/FORMATS.md, "HTTP".
+//! says where in `front` or `bytes` fields are, with room for 32, and `minor` is the digit after
+//! `HTTP/1.`. See docs/FORMATS.md, "HTTP".
 ghost use Rattle.std.specs.Prelude.{◌≡◌, ◌≤◌, All, IfOk, length, take, drop};
 ghost use Rattle.httparse.specs.Spans.{IsHeaderWithin, IsRequestWithin, IsRequestOf};
 ghost use Rattle.atl_parsing.specs.Checks.{head_checks};
@@ -135,8 +136,8 @@ fn progress_in(
     }
 }
 
-/// The verdict on the bytes so far, or how many are missing: 1 while the head isn't whole, then as
-/// many as the body lacks. AllocError without memory for the routes or the request.
+/// The final verdict on the bytes so far, or how many are missing at least: 1 while the head isn't
+/// whole, then as many as the body lacks. AllocError without memory for the routes or the request.
 pub fn progress_of(alloc: Global, seen: &[u8]) -> Result<Progress, AllocError>
     ensures { IfOk result (ComesTo seen.now) }
 {

@@ -79,7 +79,7 @@ fn end_of_path(target: &[u8]) -> usize
     first_question(target).unwrap_or(target.len())
 }
 
-/// The path of a target: the part before the first question mark, or all of it without one.
+/// The path of a target: its bytes before the first question mark, or all of them without one.
 pub fn path_of(target: &[u8]) -> &[u8]
     ensures { result.now ≡ path_of target.now }
 {

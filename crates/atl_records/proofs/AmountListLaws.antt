@@ -212,12 +212,12 @@ module _ (P : Account → ℤ → Type 0) where
       inside : (x y : ℤ) → Some x ≡ Some y → x ≡ y
       inside x y e = cc
 
-  -- what holds of each account that a map lists, with its amount, holds of each entry of the map
+  -- P holds of each pair in the list of m (`entries`), an account and its amount, if it holds wherever m has an amount
   pub each_amount : (m : FinMap account_cmp ℤ) → ((a : Account) (z : ℤ) → get m a ≡ Some z → P a z)
       → AllByRecursion (λ x. P x.0 x.1) (entries m)
   each_amount m h = each_of (entries m) (amounts_sorted m) (λ a z is. h a z (get-entries m a ∙ is))
 
-  -- what holds of each entry of a map holds of each account that the map lists, with its amount
+  -- P holds wherever m has an amount for an account, if it holds of each pair of both in the list of m (`entries`)
   pub amount_of_each : (m : FinMap account_cmp ℤ) → AllByRecursion (λ x. P x.0 x.1) (entries m) → (a : Account) (z : ℤ)
       → get m a ≡ Some z → P a z
   amount_of_each m h a z is = found_of (entries m) a z h (sym (get-entries m a) ∙ is)

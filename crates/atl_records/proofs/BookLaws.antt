@@ -165,7 +165,7 @@ module _ (books : BooksValue) (e : BooksEntry) (u : Thing) (n : ℤ) where
             ∙ ap (λ b. booked books t +ℤ cond b n (pos 0)) (sym tested)
       ]
 
-  -- a booking raises an amount by n, or leaves it as it is
+  -- after a booking of n, of either sign, each amount is what it was plus n, or what it was
   pub amount-after_booking : (f : BooksEntry) (t : Thing)
       → (amount_in (after_booking books e u n) f t ≡ amount_in books f t +ℤ n)
       ⊎ (amount_in (after_booking books e u n) f t ≡ amount_in books f t)
@@ -241,7 +241,8 @@ unchanged_amount_is_within : (z y : ℤ) (bound n more : ℕ) → y ≡ z → Is
 unchanged_amount_is_within z y bound n more e h l =
     record { most = omega (arith, ints, h.most); least = omega (arith, ints, h.least) }
 
--- if all amounts are from -bound to bound (`IsWithin`), all are within each bound from bound + n on once n is booked
+-- If all amounts are from -bound to bound, and `more` is at least bound + n, then all are from -more to more once n is
+-- booked. Here n isn't negative.
 pub IsWithin-after_booking : (books : BooksValue) (e : BooksEntry) (u : Thing) (n bound more : ℕ)
     → ((f : BooksEntry) (t : Thing) → IsWithin bound (amount_in books f t)) → bound + n ≤ more
     → (f : BooksEntry) (t : Thing)

@@ -1,6 +1,7 @@
 -- Laws of the grid, a row of amounts for each thing: making, reading, writing and summing the books that its rows are.
 -- `rows` are the rows, each at its thing's number, with an amount for each entry at the entry's index. e is an entry, t
--- a thing, a an account, and z an amount.
+-- a thing, a an account, and z an amount. In the laws for the code of Books t has a row: `row`, at its number `index`;
+-- k is the index of e.
 use Rattle.std.proofs.Common.{◌≡◌, ◌==◌, ℕ, zero, suc, ◌≤◌, ◌<◌, ◌+◌, Bool, true, false, cond, ◌||◌, List, [], ◌∷◌, ◌++◌, map, length, get_or, set, refl, sym, ap, subst, ◌∙◌, arith, inl, inr}
 use Rattle.std.specs.Prelude.{ℤ, pos, replicate, unwrap_or}
 use Rattle.std.specs.List.{flat_map, list_any, range_with_len}
@@ -148,7 +149,7 @@ as_books-replicate things =
 
 -- ---- another amount in a cell
 
--- z is written into the cell of entry e and thing t, which has a row
+-- `rows` are a grid (`IsGrid`), and z is written into the cell of entry e and thing t, which has a row
 module _ (rows : List (List ℤ)) (grid : IsGrid rows) (e : BooksEntry) (t : Thing) (z : ℤ) (there : thing_index t < length rows) where
   abbrev row_with_amount : List ℤ
   row_with_amount = set (row_of rows t) (entry_index e) z
@@ -216,7 +217,7 @@ booked-as_books rows t grid there =
     (λ i. sum_of (map (λ e. each e i) all_entries))
     ∙ ap sum_of (row_listed (row_of rows t) (grid.wide (thing_index t) [] there))
 
--- ---- for the code of Books: `row` is the row at `index`, that of thing t, which has a row; k is the index of entry e
+-- ---- for the code of Books
 
 pub grid_there : (rows : List (List ℤ)) (books : BooksValue) (t : Thing) → as_books rows ≡ books
     → thing_index t < books.things → thing_index t < length rows
@@ -227,19 +228,19 @@ row_read : (rows : List (List ℤ)) (t : Thing) (index : ℕ) (row : List ℤ) �
 row_read rows t index row is at there =
     is ∙ ap (λ k. get_or rows k row) at ∙ get_or_default rows (thing_index t) row [] there
 
--- the amount at k of the row is that in the cell of the account
+-- the amount at k of `row` is the one in the cell of e and t
 pub cell_read : (rows : List (List ℤ)) (e : BooksEntry) (t : Thing) (index k : ℕ) (row : List ℤ)
     → row ≡ get_or rows index row → index ≡ thing_index t → k ≡ entry_index e → thing_index t < length rows
     → get_or row k (pos 0) ≡ cell rows (e, t)
 cell_read rows e t index k row is at entry there = let its = row_read rows t index row is at there in λ i. get_or (its i) (entry i) (pos 0)
 
--- setting the amount at k of the row to x, which is z, writes z into the cell of the account
+-- setting the amount at k of `row` to x, which is z, writes z into the cell of e and t
 pub cell_written : (rows : List (List ℤ)) (e : BooksEntry) (t : Thing) (index k : ℕ) (row : List ℤ) (x z : ℤ)
     → row ≡ get_or rows index row → index ≡ thing_index t → k ≡ entry_index e → x ≡ z → thing_index t < length rows
     → set rows index (set row k x) ≡ with_cell rows e t z
 cell_written rows e t index k row x z is at entry value there = let its = row_read rows t index row is at there in λ i. set rows (at i) (set (its i) (entry i) (value i))
 
--- the sum of the row, in a grid (`IsGrid`), is the sum of what is booked of its thing under all entries
+-- in a grid (`IsGrid`), the sum of `row` is the sum of t's amounts under all entries
 pub row_summed : (rows : List (List ℤ)) (t : Thing) (index : ℕ) (row : List ℤ) → row ≡ get_or rows index row
     → index ≡ thing_index t → IsGrid rows → thing_index t < length rows → sum_of row ≡ booked (as_books rows) t
 row_summed rows t index row is at grid there =

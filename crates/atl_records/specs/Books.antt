@@ -47,7 +47,7 @@ thing_index Money = 0
 thing_index People = 1
 thing_index (Item i) = 2 + i
 
--- the thing with a number, the inverse of thing_index
+-- the thing with a number: 0 is money, 1 is people, and 2 + i is the item with index i in the world
 abbrev pub thing_at : ℕ → Thing
 thing_at zero = Money
 thing_at (suc zero) = People
@@ -83,7 +83,7 @@ abbrev pub is_zero : ℤ → Bool
 is_zero (pos n) = n == 0
 is_zero (negsuc n) = false
 
--- the books with another amount of a thing under an entry; an amount of 0 is not listed
+-- the books with the amount of a thing under an entry set to `amount`; if it is 0, this account is not listed
 abbrev pub with_amount : BooksValue → BooksEntry → Thing → ℤ → BooksValue
 with_amount books e t amount =
     record books { amounts = if is_zero amount then remove books.amounts (e, t) else insert books.amounts (e, t) amount }

@@ -1,4 +1,5 @@
--- The value of a holding in contracts: name, men, money, guard flag, items and days.
+-- The value of a holding in contracts: name, men, money, guard flag, items and days. No amount of 0 is listed, but for
+-- days of 0 that a stored row has.
 use Rattle.std.specs.Prelude.{◌≡◌, ◌≤◌, ◌==◌, ◌&&◌, List, ℕ, Bool, not, refl, unwrap_or, Option, None, Some, if◌then◌else◌}
 use Rattle.std.specs.Ordering.{nat_cmp}
 use Rattle.std.specs.Coded.{Coded, code_by, coded×, coded_ℕ, coded_list, coded_bool}

@@ -46,7 +46,7 @@ abbrev pub measure_of : Measure → WorldValue → ℕ → ℕ
 measure_of Weight w item = weight_of w item
 measure_of Carry w item = carry_of w item
 
--- the weight of a unit's goods, or the weight that they carry: amount times weight (or carry), summed over the items
+-- the weight of a unit's goods, or what they carry, by the measure: amount times weight (or carry), over all its items
 abbrev pub goods_measure : Measure → WorldValue → HoldingValue → ℕ
 goods_measure m w h = sum_by (λ e. e.1 * measure_of m w e.0) (entries h.items)
 
@@ -58,7 +58,7 @@ goods_weight w h = sum_by (λ e. e.1 * weight_of w e.0) (entries h.items)
 abbrev pub carried_by_goods : WorldValue → HoldingValue → ℕ
 carried_by_goods w h = sum_by (λ e. e.1 * carry_of w e.0) (entries h.items)
 
--- the weight of a unit: its men, at the rule man_weight each, and its goods; money weighs nothing
+-- the load of a unit: its men, at the rule man_weight each, and the weight of its goods; money weighs nothing
 abbrev pub load_of : WorldValue → HoldingValue → ℕ
 load_of w h = h.men * w.rules.man_weight + goods_weight w h
 

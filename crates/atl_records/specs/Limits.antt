@@ -24,7 +24,7 @@ men_limit = 999999
 abbrev pub holding_limit : ℕ
 holding_limit = most_amount
 
--- how many entries the books have
+-- how many entries there are, which is how many the books have in the second format
 abbrev pub entry_count : ℕ
 entry_count = 16
 
@@ -53,7 +53,7 @@ most_u32 = 4294967295
 abbrev pub possible_things : ℕ
 possible_things = 2 + (most_u16 + 1)
 
--- how many numbers of 32 bits there are, which bounds the entries of a map by number
+-- how many numbers of 32 bits there are, which is the most values that a map by such numbers can hold
 abbrev pub most_map_entries : ℕ
 most_map_entries = most_u32 + 1
 

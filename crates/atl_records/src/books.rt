@@ -189,8 +189,8 @@ impl Books {
         }
     }
 
-    /// How many things the books have amounts of: money, people, and the items of the world. They
-    /// list amounts of these alone, and none that is 0 (`AreBooks`).
+    /// How many things the books have amounts of, at most 65,538: money, people, and the items of
+    /// the world. They list amounts of these alone, and none that is 0 (`AreBooks`).
     pub fn len(&self) -> usize
         ensures value { result ≡ self.now.things }
         ensures few { result ≤ possible_things }

@@ -160,8 +160,8 @@ impl Holding {
         self.items.iter()
     }
 
-    /// The days of study over all men of the unit in each skill that is listed, sorted by
-    /// skill number.
+    /// The days of study over all men of the unit in each skill in which it has some, sorted by
+    /// skill number. Days of 0 that a stored row has (`put_days`) are among them.
     pub fn days(&self) -> Entries<'_, u32>
         ensures { result ≡ map.entries self.now.days }
     {

@@ -34,8 +34,8 @@ pub fn level(days: u32, men: u32) -> u32
     level
 }
 
-/// The level of a unit's men in a skill, by the days that they have studied it, and 0 without men.
-/// It takes no memory. See docs/RULES.md, "Levels and loads".
+/// The level, from 0 to 5, of a unit's men in a skill, by the days that they have studied it; 0
+/// without men. It takes no memory. See docs/RULES.md, "Levels and loads".
 pub fn level_in(holding: &Holding, skill: u16) -> u32
     ensures value { result ≡ level_in holding.now skill }
     ensures small { result ≤ last_level }
@@ -43,7 +43,7 @@ pub fn level_in(holding: &Holding, skill: u16) -> u32
     level(holding.days_of(u32::from(skill)), holding.men())
 }
 
-/// The level of a unit's men in a skill (`level_in`), 0 if no skill is named. It takes no memory.
+/// The level, from 0 to 5, of a unit's men in a skill; 0 for no skill or men. It takes no memory.
 pub fn level_in_any(holding: &Holding, skill: Option<u16>) -> u32
     ensures value { result ≡ level_in_any holding.now skill }
     ensures small { result ≤ last_level }
@@ -131,8 +131,8 @@ fn carried_by_goods(world: &World, holding: &Holding) -> u64
     goods_measure(world, holding, Measure::Carry)
 }
 
-/// The weight of a unit: that of its men and of its goods, without its money. It takes no memory.
-/// See docs/RULES.md, "Levels and loads".
+/// The load of a unit: the weight of its men and of its goods. Money weighs nothing. It takes no
+/// memory. See docs/RULES.md, "Levels and loads".
 pub fn load(world: &World, holding: &Holding) -> u64
     ensures { result ≡ load_of world.now holding.now }
 {

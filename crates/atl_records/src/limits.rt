@@ -12,10 +12,10 @@ pub const LAST_UNIT: u32 = 999_999_999;
 /// The most structures ever begun; they are numbered from 1 up to this one.
 pub const MOST_STRUCTURES: u32 = 10_000;
 
-/// How many entries the books have: 16.
+/// How many entries there are, which is how many the books have in the second format: 16.
 pub const ENTRY_COUNT: usize = BooksEntry::ALL.len();
 
-/// How many entries the books have in the first format: all but those of markets.
+/// How many entries the books have in the first format: all but the three of markets.
 pub const FIRST_ENTRY_COUNT: usize = 13;
 
 /// The number of the world's first item among the things of the books; money has 0, people have 1.

@@ -7,12 +7,13 @@ use Rattle.atl_sight.specs.Events.{results_text, orders_part}
 use Rattle.atl_report.specs.Sight.{view_of}
 use Rattle.atl_report.specs.Report.{header_line, region_parts, report_of, OthersEventsAreNotReported, OnlyWhatIsSeenIsReported}
 
--- events of other factions make no difference to a faction's report
+-- for one view and the same faulty lines, lists with the same events of the view's faction give the same report
 pub others_events_are_not_reported : OthersEventsAreNotReported
 unfolding report_of orders_part
 others_events_are_not_reported w v faults events others h =
     ap (λ own. header_line v ++ ((codes "Orders:\n" ++ results_text faults own) ++ region_parts w v.regions)) h
 
+-- a faction that sees the same of two campaigns gets the same report, for the same faulty lines and own events
 pub only_what_is_seen_is_reported : OnlyWhatIsSeenIsReported
 unfolding view_of
 only_what_is_seen_is_reported w c d faction faults events others seen results_text =

@@ -53,8 +53,8 @@ four_exits_are_joined None None (Some e) w =
 four_exits_are_joined None None None (Some w) = append-nil (exit_text (codes "west") w)
 four_exits_are_joined None None None None = refl
 
--- a region's exits with commas between them are its four directions as they are written, each after a comma unless all
--- before it have no exit
+-- a region's exits with commas between them are its four directions as they are written: north, south, east, west, each
+-- after a comma unless none before it has an exit
 pub joined_in_turn : (p : RegionPlan) →
     separated_texts (codes ", ") (exit_texts p)
     ≡ exit_as_written true (codes "north") p.north

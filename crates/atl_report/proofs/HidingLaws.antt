@@ -1,8 +1,8 @@
 -- Laws of the lists of units: the numbers gathered from a region's lists are those of the units that a faction sees
 -- there.
 -- `levels` has a region's lists of units by hiding level, the level of observation from which other factions see them.
--- `es` are entries: of these lists, each a level and its list, or of units by number. `q` is the number that is asked
--- for, and `ns` a list of units' numbers. A set of numbers is a map from each of them to `tt`.
+-- `es` are pairs: each a level and its list, or a unit's number and the unit. `q` is the number that is asked for, and
+-- `ns` a list of units' numbers. A set of numbers is a map from each of them to `tt`.
 use Rattle.std.proofs.Common.{◌≡◌, ◌==◌, ℕ, Bool, true, false, cond, ◌&&◌, ◌||◌, nat_le, List, [], ◌∷◌, filter, map, Option, Some, None, is_some, unwrap_or, refl, sym, ap, ◌∙◌, inl, inr, arith}
 use Rattle.std.specs.Prelude.{option_map, Result, Ok, Err, IfOk}
 use Rattle.std.specs.Ordering.{nat_cmp, eq_by_cmp}
@@ -291,11 +291,11 @@ module _ (w : WorldValue) (c : CampaignValue) (watch : Watch) (levels : FinMap n
 
 -- `watch` is a faction's watch in a region
 module _ (w : WorldValue) (c : CampaignValue) (watch : Watch) where
-  -- the views of some entries
+  -- the views of the units of some pairs
   abbrev views : List (ℕ × Unit) → List UnitView
   views = map (λ (e : ℕ × Unit). unit_view c watch.faction e.0 e.1)
 
-  -- those of some entries whose units are seen in the region
+  -- those pairs whose units are seen in the region
   abbrev seen : List (ℕ × Unit) → List (ℕ × Unit)
   seen = filter (λ e. is_seen_there w watch (get c.units e.0))
 
@@ -303,7 +303,7 @@ module _ (w : WorldValue) (c : CampaignValue) (watch : Watch) where
   abbrev shown : List ℕ → List UnitView
   shown = filter_map (λ n. seen_unit w c watch n (get c.units n))
 
-  -- for `seen_of`: the next entry, whose unit is in the region (r) and seen (s), or isn't
+  -- for `seen_of`: the next pair, whose unit is in the region (r) and seen (s), or isn't
   next_seen : (e : ℕ × Unit) (es : List (ℕ × Unit)) (ns : List ℕ) (r s : Bool) → views (seen es) ≡ shown ns
       → views (cond (r && s) (e ∷ seen es) (seen es))
       ≡ cond r (cons_option (cond s (Some (unit_view c watch.faction e.0 e.1)) None) (shown ns)) (shown ns)
@@ -317,7 +317,7 @@ module _ (w : WorldValue) (c : CampaignValue) (watch : Watch) where
   next_shown n ns true o is = ap (λ o. cons_option (seen_unit w c watch n o) (shown ns)) (sym is)
   next_shown n ns false o is = refl
 
-  -- the views of those of some entries that are seen in the region are those of the numbers of units there
+  -- the views of those of some pairs that are seen in the region are those of the numbers of units there
   seen_of : (es : List (ℕ × Unit)) → EachEntry (λ n u. get c.units n ≡ Some u) es
       → views (seen es) ≡ shown (numbers_among (λ (u : Unit). u.region == watch.region) es)
   seen_of [] h = refl

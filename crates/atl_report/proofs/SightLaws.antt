@@ -1,6 +1,6 @@
 -- Laws of sight: the regions gathered from a faction's units are those that it sees.
 -- `c` is the campaign, `f` the number of a faction, and `q` that of a region. `seen` is the set of numbers gathered, a
--- map from each of them to `tt`. `m` is a map by number, and `es` are entries of it, each a number and its value.
+-- map from each of them to `tt`. `m` is a map by number, and `es` are pairs of it, each a number and its value.
 use Rattle.std.proofs.Common.{◌≡◌, ◌==◌, ℕ, Bool, true, false, cond, ◌&&◌, ◌||◌, nat_lt, List, [], ◌∷◌, filter, map, Option, Some, None, refl, sym, ap, ◌∙◌, T}
 use Rattle.std.specs.Prelude.{option_map}
 use Rattle.std.specs.declared.cmp.Ordering.TheVariants.{Less, Equal, Greater}
@@ -24,12 +24,12 @@ use Rattle.atl_report.specs.Gathering.{with_region, with_watched, with_all_watch
 use mathlib.Core.Bool.{or-false}
 use Rattle.atl_world.proofs.SortedMapLaws.{above_compares_unequal}
 
--- ---- what holds of some entry
+-- ---- what holds of some pair
 
 -- `p` is a test of the values of a map, and `g` one of what a look-up in it finds, None where it finds nothing
 module _ {X : Type 0} (p : X → Bool) (g : Option X → Bool) where
-  -- an entry in front, whose number is below all of `es`, makes no difference to whether `g` holds of some value looked
-  -- up by the number of an entry of `es` that passes `p`
+  -- a pair in front, whose number is below all of `es`, makes no difference to whether `g` holds of some value looked
+  -- up by the number of a pair of `es` that passes `p`
   past : (k : ℕ) (v : X) (fs es : List (ℕ × X)) → below_all nat_cmp k es ≡ true
       → list_any (λ n. g (find nat_cmp n ((k, v) ∷ fs))) (numbers_among p es)
       ≡ list_any (λ n. g (find nat_cmp n fs)) (numbers_among p es)
@@ -44,7 +44,7 @@ module _ {X : Type 0} (p : X → Bool) (g : Option X → Bool) where
       ]
       ∙ ap (list_any (λ n. g (find nat_cmp n fs))) (sym (chosen-cons p e es))
 
-  -- in a sorted list `g` holds of some value looked up by the number of an entry that passes `p`, just where some entry
+  -- in a sorted list `g` holds of some value looked up by the number of a pair that passes `p`, just where some pair
   -- passes both `p` and `g`
   some_found : (es : List (ℕ × X)) → is_sorted nat_cmp es ≡ true
       → list_any (λ n. g (find nat_cmp n es)) (numbers_among p es) ≡ list_any (λ e. p e.1 && g (Some e.1)) es
@@ -90,14 +90,14 @@ region_is_seen_by_unit c f q =
 
 -- ---- the numbers gathered
 
--- replaces a value by `tt`, the only value of the unit type, so that of an entry its number alone is left
+-- replaces a value by `tt`, the only value of the unit type, so that of a pair its number alone is left
 abbrev forget_value : {V : Type 0} → V → Prim.Unit {0}
 forget_value v = tt
 
 abbrev number_alone : {V : Type 0} → ℕ × V → ℕ × Prim.Unit {0}
 number_alone e = (e.0, tt)
 
--- entries whose values are replaced by `tt` keep their numbers and their order; a look-up finds `tt` where it found a
+-- pairs whose values are replaced by `tt` keep their numbers and their order; a look-up finds `tt` where it found a
 -- value before
 module _ {V : Type 0} where
   find-alone : (q : ℕ) (es : List (ℕ × V))
@@ -189,7 +189,7 @@ module _ (c : CampaignValue) (f q : ℕ) where
       all_watched (numbers_of_faction f c.units) empty false (get-empty nat_cmp q)
       ∙ ap (λ t. cond t (there q) None) (or-false (list_any (λ n. watches_in f q (get c.units n)) (numbers_of_faction f c.units)) ∙ region_is_seen_by_unit c f q)
 
--- a set that has just those numbers of a map that pass the test `t` has them in the order of the map
+-- a set that has just those numbers of a map that pass the test `t` has them in ascending order
 pub chosen_numbers : {V : Type 0} (m : FinMap nat_cmp V) (t : ℕ → Bool) (seen : FinMap nat_cmp (Prim.Unit {0}))
     → ((q : ℕ) → get seen q ≡ cond (t q) (option_map forget_value (get m q)) None)
     → entries seen ≡ map (λ e. (e.0, tt)) (filter (λ e. t e.0) (entries m))
@@ -203,7 +203,7 @@ chosen_numbers {V} m t seen are =
     ∙ alone_chosen (t q) (get m q))))
     ∙ entries-from_sorted nat_cmp numbers sorted
 
--- the numbers gathered from the faction's units are those of the regions that it sees, in rising order
+-- the numbers gathered from the faction's units are those of the regions that it sees, in ascending order
 pub entries-with_all_watched : (c : CampaignValue) (f : ℕ)
     → entries (with_all_watched c f (numbers_of_faction f c.units) empty)
     ≡ map (λ e. (e.0, tt)) (filter (λ e. sees_region c f e.0) (entries c.regions))
@@ -211,10 +211,10 @@ entries-with_all_watched c f =
     chosen_numbers c.regions (sees_region c f) (with_all_watched c f (numbers_of_faction f c.units) empty)
     (λ q. get-with_all_watched c f q)
 
--- values looked up by the numbers of chosen entries
+-- values looked up by the numbers of chosen pairs
 module _ {A V : Type 0} (m : FinMap nat_cmp V) (make : ℕ → V → A) where
-  -- if the map `m` has each entry of `es`, then to look up in `m` the values of those entries that pass `p`, by number,
-  -- and apply `make` to each, gives what `make` gives of these entries
+  -- if the map `m` has each pair of `es`, then to look up in `m` the values of those pairs that pass `p`, by number,
+  -- and apply `make` to each, gives what `make` gives of these pairs
   looked_up : (p : ℕ × V → Bool) (es : List (ℕ × V)) → EachEntry (λ n v. get m n ≡ Some v) es
       → filter_map (λ (e : ℕ × Prim.Unit {0}). option_map (make e.0) (get m e.0)) (map number_alone (filter p es)) ≡ map (λ e. make e.0 e.1) (filter p es)
   looked_up p [] h = refl
@@ -224,8 +224,8 @@ module _ {A V : Type 0} (m : FinMap nat_cmp V) (make : ℕ → V → A) where
         | false ↦ looked_up p es h.1
       ]
 
--- to look up in a map the values of those entries that pass `p`, by number, and apply `make` to each, gives what `make`
--- gives of these entries
+-- Take the pairs of a map, each a number and its value, that pass `p`. To look up their values by number, and apply
+-- `make` to each, gives what `make` gives of these pairs.
 pub values_looked_up : {A V : Type 0} (m : FinMap nat_cmp V) (make : ℕ → V → A) (p : ℕ × V → Bool)
     → filter_map (λ (e : ℕ × Prim.Unit {0}). option_map (make e.0) (get m e.0)) (map (λ e. (e.0, tt)) (filter p (entries m)))
     ≡ map (λ e. make e.0 e.1) (filter p (entries m))

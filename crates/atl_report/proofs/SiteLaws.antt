@@ -46,7 +46,7 @@ site_goes_on sites n s es region =
     number_goes_on sites s.region n region (numbers_among (λ (t : Structure). t.region == region) es)
     ∙ ap (λ l. list_of sites region ++ l) (sym (chosen-cons (λ (t : Structure). t.region == region) (n, s) es))
 
--- where there are no lists, each key's list is empty
+-- where there are no lists (`empty`), each key's list is empty
 pub no_lists : (m : FinMap nat_cmp (List ℕ)) → m ≡ empty → (key : ℕ) → list_of m key ≡ []
 no_lists m h key =
     ap (λ (m : FinMap nat_cmp (List ℕ)). list_of m key) h ∙ ap (λ o. unwrap_or o []) (get-empty nat_cmp key)
@@ -79,7 +79,8 @@ module _ (units : FinMap nat_cmp Unit) (key : Unit → ℕ) (k : ℕ) where
   list_of-with_all_keyed (n ∷ ns) lists =
       list_of-with_all_keyed ns (with_keyed key lists n (get units n)) ∙ next_keyed lists n ns (get units n) refl
 
-  -- lists to which the numbers of some units were added, from none, have under a key the numbers whose units have it
+  -- If numbers are added to empty lists, each to the list of its unit's key, the list of `k` then has those numbers, in
+  -- their order, that have a unit whose key is `k`.
   pub listed_by_key : (ns : List ℕ)
       → list_of (with_all_keyed units key empty ns) k ≡ filter (λ n. has_key (get units n)) ns
   listed_by_key ns = list_of-with_all_keyed ns empty ∙ ap (λ l. l ++ of_key ns) (no_lists empty refl k)

@@ -62,7 +62,7 @@ amount_lines w books t = each_text (λ e. amount_line w t e (amount_in books e t
 unfoldable pub total_line : WorldValue → CampaignValue → Thing → List ℕ
 total_line w c t = thing_name w t ▸ codes " total " ▸ decimal (total c t) ▸ codes "\n"
 
--- all lines of a thing: those of its entries, and its total
+-- all lines of a thing: one for each entry whose amount isn't 0, in the order of the entries' numbers, and its total
 unfoldable pub thing_part : WorldValue → CampaignValue → Thing → List ℕ
 thing_part w c t = amount_lines w c.books t all_entries ▸ total_line w c t
 

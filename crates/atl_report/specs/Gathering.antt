@@ -2,6 +2,7 @@
 -- those of the units that it sees in a region, gathered from the region's lists, and lists of units by a key of theirs.
 -- A set of numbers is a map from each of them to `tt`, the only value of the type `Prim.Unit`.
 -- `seen` is the set gathered so far, `f` a faction's number, `ns` are numbers of units, and `key` gives a unit's key.
+-- The hiding level of a unit is the level of observation from which other factions see it.
 use Rattle.std.specs.Prelude.{ℕ, List, [], ◌∷◌, nat_le, if◌then◌else◌, Option, Some, None}
 use Rattle.std.specs.Ordering.{nat_cmp}
 use Rattle.std.specs.FinMap.{FinMap, get, insert, empty, entries}
@@ -46,17 +47,17 @@ abbrev pub with_numbers : FinMap nat_cmp (Prim.Unit {0}) → List ℕ → FinMap
 with_numbers seen [] = seen
 with_numbers seen (n ∷ ns) = with_numbers (insert seen n tt) ns
 
--- `with_level observation seen level ns`: the set of numbers with those of a list added, if its level is at most the
--- given level of observation
+-- `with_level observation seen level ns`: the set `seen` with the numbers `ns` added, whose hiding level is `level`, if
+-- this is at most `observation`; else `seen`
 abbrev pub with_level : ℕ → FinMap nat_cmp (Prim.Unit {0}) → ℕ → List ℕ → FinMap nat_cmp (Prim.Unit {0})
 with_level observation seen level ns = if nat_le level observation then with_numbers seen ns else seen
 
--- the set of numbers with those of each list added whose level is at most the given level of observation
+-- the set of numbers with those of each list added that is paired with a hiding level of at most `observation`
 abbrev pub with_levels : ℕ → FinMap nat_cmp (Prim.Unit {0}) → List (ℕ × List ℕ) → FinMap nat_cmp (Prim.Unit {0})
 with_levels observation seen [] = seen
 with_levels observation seen (e ∷ es) = with_levels observation (with_level observation seen e.0 e.1) es
 
 -- `numbers_seen own levels observation`: the numbers of `own`, a faction's units in a region, and those of the lists in
--- `levels` up to `observation`. `levels` has the region's units by the level of observation from which others see them.
+-- `levels`, the region's units by hiding level, whose level is at most `observation`
 abbrev pub numbers_seen : List ℕ → FinMap nat_cmp (List ℕ) → ℕ → FinMap nat_cmp (Prim.Unit {0})
 numbers_seen own levels observation = with_levels observation (with_numbers empty own) (entries levels)

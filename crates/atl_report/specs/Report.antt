@@ -36,8 +36,8 @@ header_line v =
 
 -- ---- a unit that is seen
 
--- the start of a unit's line: number, name and men, after `*` with the money of an own unit, or after `-` with the
--- faction of another's
+-- the start of a unit's line, given its side: number, name and men, after `*` with the money of an own unit, or after
+-- `-` with the number and the name of the faction of another's
 abbrev pub unit_head : UnitView → Side → List ℕ
 unit_head u (Own money items skills) =
     codes "* Unit " ▸ decimal u.number
@@ -68,7 +68,7 @@ item_text w e = option_map_or (λ item. codes ", " ▸ decimal e.amount ▸ code
 abbrev pub item_texts : WorldValue → List ItemView → List ℕ
 item_texts w = each_text (item_text w)
 
--- after a comma the name of a skill in the world, with the unit's level and days; empty for one that it does not have
+-- after a comma the name of a skill, with the unit's level and days; empty for a skill that the world does not have
 unfoldable pub skill_text : WorldValue → SkillView → List ℕ
 skill_text w e =
     option_map_or (λ skill. codes ", " ▸ skill.name ▸ codes " " ▸ decimal e.level ▸ codes " (" ▸ decimal e.days ▸ codes ")")
@@ -154,7 +154,7 @@ exits_text p = codes "Exits: " ▸ joined_or_none (exit_texts p) ▸ codes ".\n"
 unfoldable pub exits_line : WorldValue → RegionView → List ℕ
 exits_line w r = option_map_or exits_text (get w.regions r.number) []
 
--- the line of a market: stock, wanted pieces, the prices that the world sets in the region, and the item's name
+-- the line of a market: its item, its stock with the price of one, and how many it wants with what it pays for one
 abbrev pub market_text : MarketView → Market → Item → List ℕ
 market_text e m item =
     codes "Market " ▸ item.name
@@ -189,7 +189,7 @@ region_parts w = each_text (region_part w)
 
 -- ---- the whole
 
--- the text of the report to the faction of a view, with the given faulty lines, and of the events this faction's own
+-- the report to a view's faction: its first line, the given faulty lines, its own of the events, and the view's regions
 unfoldable pub report_of : WorldValue → View → List FaultyLine → List Event → List ℕ
 report_of w v faults events = header_line v ▸ orders_part v.faction faults events ▸ region_parts w v.regions
 

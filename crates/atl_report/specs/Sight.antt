@@ -1,4 +1,5 @@
--- What a faction sees of a campaign. See docs/RULES.md, "Sight". `watch` has the watching faction and watched region.
+-- What a faction sees of a campaign. See docs/RULES.md, "Sight". `watch` has the watching faction, the watched region,
+-- and the faction's best level of observation there.
 use Rattle.std.specs.Prelude.{◌==◌, ◌-◌, ℕ, List, [], map, filter, if◌then◌else◌, Option, Some, None, option_and_then, option_map}
 use Rattle.std.specs.List.{filter_map}
 use Rattle.std.specs.Option.{option_map_or}
@@ -96,7 +97,7 @@ region_views w c faction =
     map (λ e. region_view w c (watch_over w c faction e.0) e.1)
     (filter (λ e. sees_region c faction e.0) (entries c.regions))
 
--- all that a faction sees of a campaign: the month, its own number and name, and the regions that it sees
+-- what a faction sees: the month last closed, its number, its name (empty if it isn't there), and the regions it sees
 unfoldable pub view_of : WorldValue → CampaignValue → ℕ → View
 view_of w c faction = record {
   month = c.month;

@@ -1,4 +1,5 @@
--- The lists of the structures and the units of each region, as the code makes them for the views of many factions.
+-- The lists of the structures and the units of each region, as the code makes them for the views of many factions. The
+-- hiding level of a unit is the level of observation from which other factions see it.
 use Rattle.std.specs.Prelude.{◌≡◌, ◌==◌, ◌++◌, ℕ, Bool, false, List, [], ◌∷◌, filter, Option, IfSome}
 use Rattle.std.specs.Option.{option_map_or}
 use Rattle.std.specs.Ordering.{nat_cmp}
@@ -18,8 +19,7 @@ use Rattle.atl_report.specs.declared.sites.RegionLists.{RegionLists}
 abbrev pub AreSites : FinMap nat_cmp Structure → FinMap nat_cmp (List ℕ) → Type 0
 AreSites structures sites = (region : ℕ) → list_of sites region ≡ structures_in region structures
 
--- `hides_at w level unit`: whether a unit exists, and has the given hiding level, the level of observation from which
--- other factions see it (`hiding_level`)
+-- `hides_at w level unit`: whether a unit exists, and has the given hiding level
 abbrev pub hides_at : WorldValue → ℕ → Option Unit → Bool
 hides_at w level unit = option_map_or (λ u. hiding_level w u == level) unit false
 
@@ -35,9 +35,7 @@ AreLevels w c region levels = (level : ℕ) → list_of levels level ≡ units_h
 -- What `lists` has is right: the lists of structures, if they are there, and each region's lists by hiding level.
 -- Structures may have no lists (None), and so may a region's units: a view makes the lists that it lacks.
 pub record AreRegionLists (w : WorldValue) (c : CampaignValue) (lists : RegionLists) : Type 0 where
-  -- if there are lists of structures, each region's has the numbers of its structures
   pub sites : IfSome lists.sites (AreSites c.structures)
-  -- each region that has lists of units has its units there, by hiding level
   pub levels : Every (AreLevels w c) lists.levels
 
 -- `with_listed lists key number`: the lists with a number added at the end of a key's list, which is empty before if

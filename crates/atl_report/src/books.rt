@@ -1,4 +1,5 @@
-//! Writes the text of the books. See docs/FORMATS.md, "Books".
+//! Writes the text of the books, at the end of `out`; after an AllocError some of it may be there.
+//! See docs/FORMATS.md, "Books".
 ghost use Rattle.std.specs.Prelude.{◌≡◌, ◌++◌, IfOk, OnOk, length, string_bytes};
 ghost use Rattle.std.specs.List.{slice_get};
 ghost use Rattle.atl_campaign.specs.Founding.{thing_count};

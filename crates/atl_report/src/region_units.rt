@@ -76,7 +76,8 @@ fn add_numbers(seen: &mut Numbered<()>, numbers: &[u32]) -> Result<(), AllocErro
     Ok(())
 }
 
-/// Goes over the units that are seen and no others, so a view costs no more than it shows.
+/// The numbers of `own`, and of the lists in `levels` whose level is at most `observation`. It goes
+/// over the units that are seen and no others, so a view costs no more than it shows.
 pub(crate) fn numbers_seen(
     alloc: Global,
     own: &[u32],
@@ -95,8 +96,9 @@ pub(crate) fn numbers_seen(
     Ok(seen)
 }
 
-/// The numbers of the units that the watching faction sees in the watched region; `own` has those
-/// of its own there. The region's units by hiding level are made here where `levels` hasn't them.
+/// The numbers of the units that the watching faction sees in the watched region; `own` must have
+/// those of its own there. `levels` must have right lists, by hiding level, of the regions that it
+/// has; if the watched region isn't among them, its lists are made here.
 pub(crate) fn units_seen(
     alloc: Global,
     world: &World,

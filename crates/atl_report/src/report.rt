@@ -1,4 +1,5 @@
-//! Writes the text of a report. See docs/FORMATS.md, "Reports".
+//! Writes the text of a report, at the end of `out`; after an AllocError some of it may be there.
+//! See docs/FORMATS.md, "Reports".
 ghost use Rattle.std.specs.Prelude.{◌≡◌, ◌++◌, ◌&&◌, IfOk, OnOk, [], codes, if◌then◌else◌, is_none, string_bytes};
 ghost use Rattle.std.specs.Option.{option_map_or};
 ghost use Rattle.atl_sight.specs.Each.{each_text, separated_texts};
@@ -13,15 +14,15 @@ use atl_world::{Item, Kind, Market, RegionPlan, World};
 use std::alloc::{AllocError, Global};
 use std::fmt::Write;
 
-/// A part of a view that has a text in reports; the world gives the names in the text.
+/// What in a view has a text in reports; the world gives the names in the text.
 trait InReport {
     ghost use Rattle.std.specs.Prelude.{List, ℕ};
     ghost use Rattle.atl_world.specs.Worlds.{WorldValue};
 
-    // The text of the part; the world gives the names in it.
+    // The text; the world gives the names in it.
     ghost text: { WorldValue → Self → List ℕ };
 
-    /// Writes the text of the part at the end of `out`.
+    /// Writes the text at the end of `out`.
     fn write(&self, out: &mut String, world: &World) -> Result<(), AllocError>
         ensures { OnOk result (string_bytes out.new
             ≡ string_bytes out.old ++ text world.now self.now) };
@@ -96,8 +97,7 @@ fn write_inside(out: &mut String, structure: u32) -> Result<(), AllocError>
     write!(out, ", in {structure}")
 }
 
-/// The amount and the name of an item that an own unit holds, as in `, 5 wood`; nothing for an item
-/// that the world doesn't have.
+/// An item of an own unit, as in `, 5 wood`; nothing for one that the world doesn't have.
 impl InReport for ItemView {
     ghost text = { item_text };
 
@@ -112,8 +112,8 @@ impl InReport for ItemView {
     }
 }
 
-/// The name of a skill of an own unit with its level and days, as in `, sailing 1 (30)`; nothing
-/// for a skill that the world doesn't have.
+/// A skill of an own unit with level and days, as in `, sailing 1 (30)`; nothing for one that the
+/// world doesn't have.
 impl InReport for SkillView {
     ghost text = { skill_text };
 
@@ -357,8 +357,8 @@ impl InReport for RegionView {
     }
 }
 
-/// The text of a report on a view, with the faulty lines of the faction's mailing and those of the
-/// events that are its own. The names in it come from `world`; what that doesn't have is left out.
+/// The text of the report to a view's faction, with the given faulty lines and those of the events
+/// that are its own. The names in it come from `world`; what that doesn't have is left out.
 /// AllocError without memory. See docs/FORMATS.md, "Reports".
 #[tactic(auto, unfolding(crate::specs::Report::report_of))]
 pub fn report_text(

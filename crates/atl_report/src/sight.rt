@@ -1,4 +1,6 @@
-//! Collects what a faction sees into a view. See docs/RULES.md, "Sight".
+//! Collects what a faction sees into a view. See docs/RULES.md, "Sight". `lists` has right lists of
+//! each region's structures and units, as far as it has any; `own` are the numbers of the watching
+//! faction's units in the watched region.
 ghost use Rattle.std.specs.Prelude.{◌≡◌, IfOk, OnOk, Some, filter, map};
 ghost use Rattle.std.specs.FinMap.{get, entries};
 ghost use Rattle.atl_sight.specs.Watching.{sees_region, own_units_in};

@@ -31,7 +31,7 @@ impl Drop for RegionLists {
     }
 }
 
-/// After an AllocError the lists must not be used further.
+/// Adds `number` at the end of the list of `key`. After an AllocError the lists are of no use.
 pub(crate) fn add_listed(
     alloc: Global,
     lists: &mut Numbered<Sequence<u32>>,
@@ -105,7 +105,7 @@ pub fn lists_of(
     })
 }
 
-/// No lists: a view with these lists all that it needs by itself.
+/// No lists, which are right for each campaign: a view makes all that it needs by itself.
 pub(crate) fn no_lists(alloc: Global) -> RegionLists
     ensures { (w : WorldValue) (c : CampaignValue) → AreRegionLists w c result }
 {

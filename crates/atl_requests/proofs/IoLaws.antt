@@ -53,8 +53,8 @@ appends_next before between after bytes sent count h k =
 
 -- ---- reading
 
--- if the bytes `seen` were read and have the verdict More, and the next read ends in a fault, reading the request ends
--- in this fault as promised (`Receives`)
+-- If the bytes `seen` were read and have the verdict More, and the next read ends in a fault, reading the request ends
+-- in it (`Receives`): with Cut and ReadFault `new` was read and has the verdict More, and with Cut the input has ended.
 pub fault_ends_reading : (before between after : Option (List ℕ)) (seen new : List ℕ) (fault : HttpFault)
     → Consumes before between seen → Judges seen More → ReadsMore between after seen new (Err fault)
     → Receives before after new (Err fault)

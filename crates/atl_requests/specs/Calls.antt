@@ -50,7 +50,7 @@ GivesBytes before after room came.Failed = Keeps before after
 abbrev pub no_reads : ReadCalls
 no_reads = record { count = 0; last = came.Piece 0 }
 
--- One read is done with this outcome, which is kept as the last one, and the count of reads is one more.
+-- One read is done with this outcome (`GivesBytes`), which is kept as the last one, and the count of reads is one more.
 abbrev pub ReadsOnce : (before after : Option (List ℕ)) → (room : List ℕ) → (old new : ReadCalls) → ReadOutcome → Type 0
 ReadsOnce before after room old new outcome =
     GivesBytes before after room outcome × (new ≡ record { count = old.count + 1; last = outcome })
@@ -62,9 +62,9 @@ GoesOn came.Interrupted = ⊤
 GoesOn came.End = ⊥
 GoesOn came.Failed = ⊥
 
--- The reads explain the fault. Cut: the input ended. ReadFault: a read failed, or the last one allowed gave a piece or
--- was interrupted. Memory may come before the first read, or after one that gave a piece or was interrupted. WriteFault
--- is never explained.
+-- The reads explain the fault. Cut: the last read found the end of the input. ReadFault: the last read failed, or it
+-- was the last one allowed, and gave a piece or was interrupted. Memory may come before the first read, or if the last
+-- one gave a piece or was interrupted. WriteFault is never explained.
 abbrev pub ReadFaultOf : ReadCalls → HttpFault → Type 0
 ReadFaultOf reads Cut = reads.last ≡ came.End
 ReadFaultOf reads ReadFault = (reads.last ≡ came.Failed) ⊎ (GoesOn reads.last × (reads.count ≡ most_reads))
@@ -106,7 +106,7 @@ with_write old (written.Taken count) = record { interrupted = old.interrupted; l
 with_write old written.Interrupted = record { interrupted = old.interrupted + 1; last = written.Interrupted }
 with_write old written.Failed = record { interrupted = old.interrupted; last = written.Failed }
 
--- One write is done with this outcome, which is kept as the last one, and counted if it was interrupted.
+-- One write is done with this outcome (`Takes`), which is kept as the last one, and counted if it was interrupted.
 abbrev pub WritesOnce : (before after : Option (List ℕ)) → (rest : List ℕ) → (old new : WriteCalls) → WriteOutcome → Type 0
 WritesOnce before after rest old new outcome = Takes before after rest outcome × (new ≡ with_write old outcome)
 

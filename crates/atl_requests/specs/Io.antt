@@ -20,9 +20,9 @@ fault_number Memory = None
 
 -- ---- reading
 
--- What one read adds to the collected bytes, `old` before it and `new` after it: `count` bytes of the reader, at most
--- 8,192; or none with ReadFault, or with Cut at the end of the input. WriteFault never comes, and Memory leaves open
--- what was read.
+-- What one read adds to the collected bytes, `old` before it and `new` after it: with Ok `count` bytes of the reader,
+-- from 0 to 8,192; none with ReadFault, or with Cut at the end of the input. WriteFault never comes, and Memory leaves
+-- open what was read.
 abbrev pub ReadsMore : (before after : Option (List ℕ)) → (old new : List ℕ) → Result ℕ HttpFault → Type 0
 ReadsMore before after old new (Ok count) =
     (piece : List ℕ) × (length piece ≡ count) × (count ≤ most_at_once) × Consumes before after piece × (new ≡ old ++ piece)
@@ -31,9 +31,9 @@ ReadsMore before after old new (Err ReadFault) = Keeps before after × (new ≡ 
 ReadsMore before after old new (Err WriteFault) = ⊥
 ReadsMore before after old new (Err Memory) = ⊤
 
--- The bytes `seen` were read, and no more than needed. The result is the final verdict on them. With Cut, at the end of
--- the input, and with ReadFault the verdict on them is More. WriteFault never comes, and Memory leaves open what was
--- read.
+-- With Ok the bytes `seen` were read, and no more than needed, and the result is the final verdict on them. With Cut,
+-- at the end of the input, and with ReadFault `seen` was read, and has the verdict More. WriteFault never comes, and
+-- Memory leaves open what was read.
 abbrev pub Receives : (before after : Option (List ℕ)) → (seen : List ℕ) → Result FinalVerdict HttpFault → Type 0
 Receives before after seen (Ok outcome) = Consumes before after seen × ReadsNoFurther seen × Judges seen (as_verdict outcome)
 Receives before after seen (Err Cut) = Consumes before after seen × Judges seen More × IsAtEnd after

@@ -1,5 +1,5 @@
-//! Writes the bodies of replies to commands that were carried out, and such replies. See
-//! docs/FORMATS.md, "HTTP".
+//! Writes the bodies of replies to commands that were carried out, and such replies. After an
+//! AllocError `out` may have some of what is written to it. See docs/FORMATS.md, "HTTP".
 ghost use Rattle.std.specs.Prelude.{◌≡◌, ◌++◌, IfOk, OnOk, string_bytes};
 ghost use Rattle.atl_requests.specs.Bodies.{joined_body, pair, more_pairs, pairs, mailed_body, month_body, success};
 ghost use Rattle.atl_requests.specs.Io.{MatchesReply};

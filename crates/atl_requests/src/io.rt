@@ -1,5 +1,6 @@
 //! Reads a request in pieces from a reader, and writes a reply to a writer. See docs/FORMATS.md,
-//! "For developers".
+//! "For developers". `room` is the buffer of a read, of 8,192 bytes, `seen` are the bytes read so
+//! far, and `reads` and `writes` count the calls.
 ghost use Rattle.std.specs.Prelude.{◌≡◌, ◌≤◌, ◌+◌, [], length, IfOk, OnOk};
 ghost use Rattle.atl_parsing.specs.Heads.{most_at_once, IsShortBy, ComesTo};
 ghost use Rattle.atl_requests.specs.Calls.{most_reads, no_reads, GoesOn, EndsReading, no_writes, EndsWriting};
@@ -17,7 +18,7 @@ use std::io::{Read, Write};
 /// The most bytes that one read takes.
 const MOST_AT_ONCE: usize = 8_192;
 
-/// Why serving a request ended without a reply, or with a part of one. See docs/FORMATS.md, "HTTP".
+/// Why serving a request ended without a whole reply. See docs/FORMATS.md, "HTTP".
 #[derive(Drop, Clone, Copy, Debug, PartialEq, Eq)]
 pub enum HttpFault {
     /// The input ended before the request was whole. No command was run, and nothing written.
@@ -71,8 +72,8 @@ impl From<AllocError> for HttpFault {
     }
 }
 
-/// Returns 0 if the read was interrupted. Once `MOST_READS` reads are counted, none is done, and
-/// the fault is ReadFault.
+/// Reads once, and adds what came to `seen`; returns how many bytes, 0 if the read was interrupted.
+/// Once `MOST_READS` reads are counted, none is done, and the fault is ReadFault.
 fn read_more<R: Read>(
     reader: &mut R,
     reads: &mut ReadCalls,

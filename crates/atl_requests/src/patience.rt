@@ -44,7 +44,8 @@ impl<'a, C: Clock> Patience<'a, C> {
         }
     }
 
-    /// The result is the time limit of the read or write that begins now, and the time now.
+    /// The time limit of the read or write that begins now, and the time now; TimedOut if no time
+    /// is left.
     fn begin(&self) -> io::Result<(Duration, Instant)>
         ensures waits { IfOk result (λ begun. WaitsWithin self.now.left begun.0) }
         ensures over { as_nanos self.now.left ≡ 0

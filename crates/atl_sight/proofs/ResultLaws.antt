@@ -1,4 +1,4 @@
--- Laws of a report's part on orders: when its lines are `None.`, and else which lines they are.
+-- Laws of a report's lines after `Orders:`: when they are `None.`, and else which lines they are.
 -- `faults` are the faulty lines of the faction's mailing, and `events` is a list of events of any factions.
 use Rattle.std.proofs.Common.{◌≡◌, ◌==◌, ◌++◌, ℕ, Bool, true, false, cond, ◌||◌, ◌&&◌, not, List, [], ◌∷◌, length, refl, sym, ap, ◌∙◌, arith}
 use Rattle.std.specs.Prelude.{codes, filter}
@@ -32,7 +32,7 @@ some_passes p (e ∷ es) h = by_test (p e) h (some_passes p es)
 some_length : (f : FaultyLine) (fs : List FaultyLine) → (length (f ∷ fs) == 0) ≡ false
 some_length f fs = grind (arith, nat_tests)
 
--- where no line is faulty and no event is the faction's, the lines of a report's part on orders are `None.`
+-- where no line is faulty and no event is the faction's, the lines of its report after `Orders:` are `None.`
 pub results_none : (faction : ℕ) (faults : List FaultyLine) (events : List Event)
     → ((length faults == 0) && not (list_any (λ (e : Event). e.faction == faction) events)) ≡ true
     → results_text faults (own_events faction events) ≡ codes "None.\n"
@@ -47,7 +47,7 @@ results_none faction [] events h =
     by_test true h rest = absurd (false≢true h)
     by_test false h rest = rest refl
 
--- where a line is faulty or an event is the faction's, its report has the faulty lines and then its own events
+-- where a line is faulty or an event is the faction's, its report has the faulty lines and then its own events there
 pub results_lines : (faction : ℕ) (faults : List FaultyLine) (events : List Event)
     → ((length faults == 0) && not (list_any (λ (e : Event). e.faction == faction) events)) ≡ false
     → results_text faults (own_events faction events) ≡ faulty_lines faults ++ event_lines (own_events faction events)

@@ -60,11 +60,11 @@ event_lines = each_text event_line
 abbrev pub own_events : ℕ → List Event → List Event
 own_events faction events = filter (λ e. e.faction == faction) events
 
--- the lines of faulty lines and events, or `None.` where there is neither
+-- the lines of faulty lines and then those of events, or `None.` where there is neither
 abbrev pub results_text : List FaultyLine → List Event → List ℕ
 results_text [] [] = codes "None.\n"
 results_text faults events = faulty_lines faults ▸ event_lines events
 
--- the part of a report headed `Orders:`, with the mailing's faulty lines and the faction's own events
+-- the lines from `Orders:` on: of the mailing's faulty lines, then of the faction's own events, or `None.` for neither
 unfoldable pub orders_part : ℕ → List FaultyLine → List Event → List ℕ
 orders_part faction faults events = codes "Orders:\n" ▸ results_text faults (own_events faction events)

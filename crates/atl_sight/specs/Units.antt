@@ -18,7 +18,7 @@ use Rattle.atl_sight.specs.declared.views.Side.TheVariants.{Own, Other}
 abbrev pub shown_name : Option Faction → List ℕ
 shown_name faction = option_map_or (λ f. f.name) faction []
 
--- the view of an item that an own unit holds: its index in the world, and how many pieces
+-- `item_view (item, amount)`: the view of an item that an own unit holds: its index in the world, and how many pieces
 abbrev pub item_view : ℕ × ℕ → ItemView
 item_view (item, amount) = record { item = item; amount = amount }
 
@@ -31,7 +31,7 @@ item_views h = map item_view (entries h.items)
 abbrev pub skill_view : ℕ → ℕ × ℕ → SkillView
 skill_view men (skill, days) = record { skill = skill; level = level_of days men; days = days }
 
--- the views of all skills in which a unit has days, in the order of the world
+-- the views of all skills whose days are listed of a unit, in the order of the world
 abbrev pub skill_views : HoldingValue → List SkillView
 skill_views h = map (skill_view h.men) (entries h.days)
 

@@ -23,7 +23,7 @@ sees_region c faction region = list_any (λ n. is_watching faction (get c.units 
 abbrev pub is_in : ℕ → Option Unit → Bool
 is_in region unit = option_map_or (λ u. u.region == region) unit false
 
--- `own_units_in c faction region`: the numbers of a faction's units in a region, in ascending order
+-- `own_units_in c faction region`: the numbers of a faction's units in a region, with men or not, in ascending order
 abbrev pub own_units_in : CampaignValue → ℕ → ℕ → List ℕ
 own_units_in c faction region = filter (λ n. is_in region (get c.units n)) (numbers_of_faction faction c.units)
 

@@ -1,4 +1,4 @@
-//! Writes the part of a report on orders: faulty lines of the mailing, and events. See
+//! Writes the lines of a report from `Orders:` on: faulty lines of the mailing, and events. See
 //! docs/FORMATS.md, "Reports".
 ghost use Rattle.std.specs.Prelude.{◌≡◌, ◌==◌, ◌++◌, ◌&&◌, not, length, OnOk, string_bytes};
 ghost use Rattle.std.specs.List.{list_any};
@@ -101,8 +101,8 @@ fn write_results(
     Ok(())
 }
 
-/// Writes the part headed `Orders:` at the end of `out`: the mailing's faulty lines, and those of
-/// the events that are the faction's own. AllocError without memory; `out` may then have a part.
+/// Writes `Orders:` at the end of `out`, then the mailing's faulty lines and the faction's own
+/// events, or `None.` without either. After an AllocError `out` may have some of it.
 #[tactic(auto, unfolding(crate::specs::Events::orders_part))]
 pub fn write_orders(
     out: &mut String,

@@ -1,7 +1,7 @@
 //! The view of a faction: all that its report shows.
 use atl_world::{Sequence, Text, let_go};
 
-/// What a faction sees of a campaign: all that its report shows, except for the part on its orders.
+/// What a faction sees of a campaign: all that its report shows, but for faulty lines and events.
 pub struct View {
     /// The month last closed.
     pub month: u32,

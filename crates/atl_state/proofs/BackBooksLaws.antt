@@ -138,7 +138,7 @@ module _ (things : ℕ) (few : things ≤ 4294967294) (books : BooksValue) (are 
         keys_permuted books_key (books_rows books) rows h
         (entries_apart (entries books.amounts) (amounts_sorted books.amounts))
 
-    -- the rows of books, in any order, are each read as an account and an amount (IsBooked)
+    -- each row of the books is that of an entry and a thing below `things`, with an amount that isn't 0 (IsBooked)
     pub all_booked : AllByRecursion (IsBooked things) rows
     all_booked = each_permuted (IsBooked things) (books_rows books) rows h lines_booked
 

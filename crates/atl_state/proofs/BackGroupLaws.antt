@@ -59,7 +59,7 @@ module _ {U R : Type 0} (f : ℕ × U → List R) (P : R → Type 0) where
 
 -- ---- the rows of a group: of each amount that is not 0
 
--- `row` makes the row of a thing and its amount, and `none` tests whether the amount of a row is 0
+-- `row` makes the row of a thing and its amount, `none` tests whether a row's amount is 0, and m is a map of amounts
 module _ {R : Type 0} (none : R → Bool) (row : ℕ → ℕ → R) (m : FinMap nat_cmp ℕ) where
   -- the rows of a map of amounts (a unit's goods, a region's stocks): one for each amount that is not 0
   abbrev lines : List R
@@ -77,7 +77,7 @@ module _ {R : Type 0} (none : R → Bool) (row : ℕ → ℕ → R) (m : FinMap 
       every_row row (λ r. not (none r) ≡ true → P r) m (unkept (λ r. not (none r)) P (rows_by row (entries m)) h) i a is
       (not_from_false (none (row i a)) some)
 
-  -- the rows of a map of amounts are distinct by e, if e is false of the rows of a lower and a higher number
+  -- no two rows of a map of amounts are alike by the test e, if e is false of rows of a lower and of a higher number
   pub lines_apart : (e : R → R → Bool) → ((i k a b : ℕ) → i < k → e (row i a) (row k b) ≡ false) → IsDistinct e lines
   lines_apart e apart =
       filter_apart (λ r. not (none r)) e (rows_by row (entries m)) (rows_apart row e apart (entries m) (entries_rise m))

@@ -88,6 +88,7 @@ module _ (units : FinMap nat_cmp Unit) where
   -- the numbers of units, items and skills fit 32 bits, and each amount of an item or of days is from 1 to most_u32
   pub record AreHad : Type 0 where
     pub numbers : Every (λ n u. n ≤ most_u32) units
+    -- of items and of days alike: each number fits 32 bits, and each listed amount is from 1 to most_u32
     pub goods : Every (λ n u. (s : ℕ) → s < 2 → Every (λ i a. (i ≤ most_u32) × (1 ≤ a) × (a ≤ most_u32)) (goods_of s u)) units
 
   module _ (had : AreHad) (rows : List StoredHas) (h : IsPermutation (has_rows (entries units)) rows) where

@@ -167,12 +167,12 @@ module _ (f : Format) (w : WorldValue) (p : Parts) where
   pub books-said : KeepsRulesBelow f w p 11 → AreBooks (thing_count w) (campaign_of w p).books
   books-said k = (AreInRange-said w p (k Ranges (omega arith))).books
 
-  -- if rows keep rules 1 to 10, the units read from them have only items of the world
+  -- if rows keep rules 1 to 10, the units read from them list only items that the world has
   pub items-said : KeepsRulesBelow f w p 11
       → Every (λ n u. Every (λ i amount. i < length w.items) u.holding.items) (campaign_of w p).units
   items-said k n u is = ((k Known (omega arith)).0.units n u is).items
 
-  -- if rows keep rules 1 to 10, the regions read from them have only items in stock that have a market there
+  -- if rows keep rules 1 to 10, the regions read from them list stocks only of items with a market there in the world
   pub stocks-said : KeepsRulesBelow f w p 11 → Every (λ n r. AreOfMarkets w n r.stocks) (campaign_of w p).regions
   stocks-said k = (k Known (omega arith)).0.markets
 

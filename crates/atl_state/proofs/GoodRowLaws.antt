@@ -233,7 +233,7 @@ module _ (w : WorldValue) (world : IsWorld w) (c : CampaignValue) (good : IsGood
       let money : u.holding.money ≤ holding_limit = holding.money in
       unit_small_enough u faction region structure men money
 
-  -- the numbers of each structure of a good campaign fit the bits in which they are read
+  -- in a good campaign each structure's kind fits 16 bits, and region, owner and how much is done 32 (StructureFits)
   pub structure_fits : Every (λ n s. StructureFits s) c.structures
   structure_fits n s is =
       let built = good.sound.steady.known.structures n s is in
@@ -246,7 +246,7 @@ module _ (w : WorldValue) (world : IsWorld w) (c : CampaignValue) (good : IsGood
       let holding = (good.sound.steady.numbers.units n u is).1 in
       goods_fit w world u placed.items placed.skills holding.items holding.men (good.sound.steady.days n u is)
 
-  -- what units of a good campaign have fits the rows of the table `has` (AreHad)
+  -- in a good campaign numbers of units, items and skills fit 32 bits, and amounts are from 1 to most_u32 (AreHad)
   pub had : AreHad c.units
   had = record { numbers = small_enough c.units last_unit (omega arith) few_units; goods = goods_few }
 
@@ -256,7 +256,7 @@ module _ (w : WorldValue) (world : IsWorld w) (c : CampaignValue) (good : IsGood
       let below = market_known w world n i named in
       omega (arith, few, below)
 
-  -- what regions of a good campaign have in stock fits the rows of the table `market` (AreStocked)
+  -- in a good campaign numbers of regions and items fit 32 bits, and listed stocks are from 1 to most_u32 (AreStocked)
   pub stocked : AreStocked c.regions
   stocked = record {
     numbers = λ n r is. let most = region_small n (r, is) in omega (arith, most);
@@ -309,11 +309,11 @@ module _ (w : WorldValue) (world : IsWorld w) (c : CampaignValue) (good : IsGood
     unfolding rows_of
     markets_listed = rows.markets
 
-    -- the rows have one campaign row, that of the campaign
+    -- the rows have exactly one campaign row, that of c in the format f
     pub its_head : p.campaign ≡ campaign_row f c ∷ []
     its_head = only_row (campaign_row f c) p.campaign head_listed
 
-    -- the campaign row that is read is that of the campaign
+    -- the campaign row that is read from the rows is that of c in the format f
     pub head_said : campaign_row_of p ≡ campaign_row f c
     head_said = ap (λ hs. slice_index_or hs 0 no_campaign_row) its_head
 

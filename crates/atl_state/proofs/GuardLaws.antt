@@ -1,6 +1,6 @@
 -- Laws of the rule of guards: checking each region's list of units decides whether its guards are of one faction. A
 -- list of numbers passes `one_holder` if the factions of its numbers, where they have one, are all the same, and are
--- the holder if one is given.
+-- the holder if one is given. A guard is a unit whose guard flag is set and that has men.
 use Rattle.std.proofs.Common.{◌≡◌, ◌==◌, ◌⊎◌, inl, inr, ℕ, suc, ◌<◌, Bool, true, false, cond, List, [], ◌∷◌, length, get_or, map, filter, Option, Some, None, option_and_then, refl, sym, ap, ◌∙◌, subst, arith}
 use Rattle.std.proofs.lemmas.Bool.{and_parts}
 use Rattle.std.proofs.lemmas.Bool.Decides.{Decides-eqb}

@@ -155,7 +155,7 @@ module _ (f : Format) (w : WorldValue) (p : Parts) (k : RowsKeep f w p) where
       (each_passes (books_in_range (books_bound p)) (λ r. IsWithin (books_bound p) r.amount) (λ r h. passing_is_within (books_bound p) r.amount (and_parts (not (is_zero r.amount)) (is_within (books_bound p) r.amount) h).1) p.books (ranges f w p k).books)
       (within-no_amounts (thing_count w) (books_bound p))
 
-  -- the amounts of the books of the campaign assembled from rows are within its bound (AreAmountsWithin)
+  -- each amount of the books of the campaign assembled from rows is, without its sign, at most its `amount_bound`
   pub AreAmountsWithin-said : AreAmountsWithin (campaign_of w p)
   unfolding campaign_of
   AreAmountsWithin-said e t =

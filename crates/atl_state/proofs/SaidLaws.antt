@@ -105,7 +105,7 @@ pub record RowsKeep (f : Format) (w : WorldValue) (p : Parts) : Type 0 where
   pub held : list_all (is_of_unit (campaign_of w p)) p.has ≡ true
   -- rule 4: each row of `market` is of a market of the world
   pub stocked : list_all (is_of_market w) p.markets ≡ true
-  -- rule 6: each skill of a unit has days within their bounds
+  -- rule 6: each skill that is listed of a unit has at least 1 day, and at most 450 for each of its men
   pub days : AreDays (campaign_of w p)
   -- rule 11: each row of the table `books` is of an entry of the format and a thing of the world
   pub booked : list_all (is_booked f w) p.books ≡ true
@@ -166,7 +166,7 @@ size_small : (o : Option Kind) → ((x : Kind) → o ≡ Some x → x.size ≤ m
 size_small None h = omega arith
 size_small (Some x) h = h x refl
 
--- if w keeps the rules of worlds, the size of each kind is at most most_size, which is also given for a kind it lacks
+-- if w keeps the rules of worlds, each kind's size is at most most_size; a kind that w lacks counts as one of this size
 pub small_size : (w : WorldValue) → IsWorld w → (kind : ℕ) → size_of w kind ≤ most_size
 small_size w world kind = size_small (slice_get w.kinds kind) (λ x is. (world.kinds kind x is).size)
 
@@ -183,7 +183,7 @@ limit_small : (o : Option Market) → ((m : Market) → o ≡ Some m → m.limit
 limit_small None h = omega arith
 limit_small (Some m) h = h m refl
 
--- if w keeps the rules of worlds, each region's largest stock of an item is at most most_amount, also without a market
+-- if w keeps the rules of worlds, an item's largest stock in a region is at most most_amount, also without a market
 pub small_limit : (w : WorldValue) → IsWorld w → (n i : ℕ) → stock_limit w n i ≤ most_amount
 small_limit w world n i =
     limit_small (market_of w n i)
@@ -583,7 +583,7 @@ module _ (f : Format) (w : WorldValue) (p : Parts) (k : RowsKeep f w p) where
       let some = failing_is_nonzero r.amount (not-true (is_zero r.amount) (and_parts (not (is_zero r.amount)) (is_within (books_bound p) r.amount) range).0) in
       booked_row (thing_count w) r (whole_below r.entry (omega arith)) (whole_below r.thing (omega arith)) entry.0 entry.1 there some
 
-  -- each row of `books` is read as an account and an amount (IsBooked)
+  -- each row of `books` is that of an entry and a thing of the world, with an amount that isn't 0 (IsBooked)
   pub all_booked : AllByRecursion (IsBooked (thing_count w)) p.books
   all_booked =
       each_follows_from_two (λ r. is_booked f w r ≡ true) (λ r. books_in_range (books_bound p) r ≡ true) (IsBooked (thing_count w)) its_account p.books (each_passes (is_booked f w) (λ r. is_booked f w r ≡ true) (λ r h. h) p.books k.booked)

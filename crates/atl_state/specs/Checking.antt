@@ -77,28 +77,28 @@ abbrev pub Fits : Format → CampaignValue → Type 0
 Fits First c = IsWithoutMarkets c
 Fits Second c = ⊤
 
--- c is a good campaign that has exactly the rows p, fits the format, and has nothing marked
+-- c is a good campaign that has exactly the rows p, in any order, fits the format, and has nothing marked
 pub record IsChecked (f : Format) (w : WorldValue) (p : Parts) (c : MarkedCampaign) : Type 0 where
   pub rows : AreRowsOf f c.value p
   pub fits : Fits f c.value
   pub good : IsGood w c.value
   pub marks : c.marks ≡ no_marks
 
--- what `check_as` may answer: a good campaign with just these rows (`IsChecked`), the first rule that they break, or
--- Memory
+-- What `check_as` may answer: a good campaign with exactly these rows, which fits the format and has nothing marked;
+-- Damaged with the first rule that they break; or Memory.
 abbrev pub Checks : Format → WorldValue → Parts → Result MarkedCampaign CheckFault → Type 0
 Checks f w p (Ok c) = IsChecked f w p c
 Checks f w p (Err (Damaged r)) = IsFirstBroken f w p r
 Checks f w p (Err Memory) = ⊤
 
--- if the rows are those of a good campaign that the format can hold, the answer is that campaign, or Memory
+-- if the rows are those of a good campaign d that the format can hold, the answer is d or Memory
 abbrev pub GivesBack : Format → WorldValue → Parts → Result MarkedCampaign CheckFault → Type 0
 GivesBack f w p (Ok c) = (d : CampaignValue) → IsGood w d → Fits f d → AreRowsOf f d p → c.value ≡ d
 GivesBack f w p (Err (Damaged r)) = (d : CampaignValue) → IsGood w d → Fits f d → ¬ (AreRowsOf f d p)
 GivesBack f w p (Err Memory) = ⊤
 
 -- What a check of the rules with numbers below n may answer. It is Ok only if the rows keep them all, Damaged only with
--- the first rule that they break, or Memory. For the parts of `check_as` alone.
+-- the first rule that they break, or Memory. For the steps of `check_as` alone.
 abbrev pub ChecksBelow : Format → WorldValue → Parts → ℕ → Result (Prim.Unit {0}) CheckFault → Type 0
 ChecksBelow f w p n (Ok u) = KeepsRulesBelow f w p n
 ChecksBelow f w p n (Err (Damaged r)) = IsFirstBroken f w p r

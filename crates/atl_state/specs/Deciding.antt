@@ -1,4 +1,5 @@
--- For proofs alone: what is tested to decide the rules on owners, guards, and the names that factions joined under.
+-- For proofs alone: what is tested to decide the rules on owners, guards, and the names that factions joined under. A
+-- unit guards if its guard flag is set and it has men.
 use Rattle.std.specs.Prelude.{◌≡◌, ◌≢◌, ◌==◌, ◌&&◌, ℕ, Bool, true, List, [], ◌∷◌, ⊤, Option, Some, None, option_and_then, if◌then◌else◌}
 use Rattle.std.specs.Option.{option_or}
 use Rattle.std.specs.FinMap.{get}
@@ -9,9 +10,8 @@ use Rattle.atl_campaign.specs.Campaign.{CampaignValue}
 use Rattle.atl_campaign.specs.Good.{guards}
 use Rattle.atl_world.specs.Every.{EachEntry}
 
--- structure n has no owner (0), or its owner is a unit inside it
+-- structure n has no owner (0), or its owner is a unit of the campaign that is inside it
 pub record HasOwnerInside (c : CampaignValue) (n : ℕ) (s : Structure) : Type 0 where
-  -- if the structure's owner isn't 0, it is a unit of the campaign that is inside the structure
   pub owned : s.owner ≢ 0 → (u : Unit) × (get c.units s.owner ≡ Some u) × (u.structure ≡ n)
 
 -- the faction of unit n, if the unit exists and guards its region, else None
@@ -24,7 +24,8 @@ agree None b = true
 agree (Some x) None = true
 agree (Some x) (Some y) = x == y
 
--- whether the listed units' factions, where `faction` gives one, are all the same, and are `holder`, if that is Some
+-- `one_holder faction holder ns`: whether the factions that `faction` gives for the listed units, where it gives one,
+-- are all the same, and are `holder`, if that is Some
 abbrev pub one_holder : (ℕ → Option ℕ) → Option ℕ → List ℕ → Bool
 one_holder faction holder [] = true
 one_holder faction holder (n ∷ ns) = agree (faction n) holder && one_holder faction (option_or holder (faction n)) ns

@@ -175,7 +175,8 @@ fn keeps_known(world: &World, parts: &Parts, campaign: &Campaign) -> bool
     are_known(world, campaign) && are_goods_known(world, parts, campaign)
 }
 
-/// `rows` are all rows; `parts` lacks those of units, mail and reports, which the campaign took.
+/// `campaign` is read from `rows`, which keep rules 1 to 10; `parts` has them but for those of
+/// units, mail and reports.
 fn keeps_books(format: Format, world: &World, parts: &Parts, campaign: &Campaign) -> bool
     ghost rows: { Parts }
     requires what { campaign.now.value ≡ campaign_of world.now rows }
@@ -193,7 +194,8 @@ fn keeps_mail(campaign: &Campaign) -> bool
     are_mailings(campaign) && are_reported(campaign)
 }
 
-/// `rows` are all rows; `parts` lacks those of units, mail and reports, which the campaign took.
+/// `campaign` is read from `rows`, which keep rules 1 to 3; `parts` has them but for those of
+/// units, mail and reports.
 fn check_rules_4_to_7(
     world: &World,
     parts: &Parts,
@@ -221,7 +223,8 @@ fn check_rules_4_to_7(
     Ok(())
 }
 
-/// `rows` are all rows; `parts` lacks those of units, mail and reports, which the campaign took.
+/// `campaign` is read from `rows`, which keep rules 1 to 7; `parts` has them but for those of
+/// units, mail and reports.
 fn check_rules_8_to_12(
     world: &World,
     parts: &Parts,

@@ -58,7 +58,7 @@ fn has_in_range(row: &StoredHas) -> bool
     is_from(1, 1, row.sort) || is_from(0, 0, row.sort) && is_from(1, HOLDING_LIMIT, row.amount)
 }
 
-/// A kind that the world lacks counts as one of MOST_SIZE.
+/// A kind that the world lacks counts as one of size MOST_SIZE.
 fn structure_in_range(world: &World, row: &StoredStructure) -> bool
     ensures { result ≡ structure_in_range world.now row.now }
 {
@@ -72,7 +72,7 @@ fn books_in_range(bound: u128, row: &StoredBooks) -> bool
     is_set(row.amount) && is_within(bound, row.amount)
 }
 
-/// Where there is no such market, a stock may be MOST_AMOUNT.
+/// Where the world has no such market, a stock may be up to MOST_AMOUNT.
 fn market_in_range(world: &World, row: &StoredMarket) -> bool
     ensures { result ≡ market_in_range world.now row.now }
 {

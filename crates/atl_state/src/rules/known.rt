@@ -1,4 +1,5 @@
-//! Rule 4 on a campaign: its regions are the world's, and all that it names by number exists.
+//! Rule 4 on a campaign: its regions are the world's, and all that it names by number is known,
+//! which means that it exists.
 ghost use Rattle.std.specs.Prelude.{◌≡◌, ◌≢◌, ◌<◌, ◌↔◌, ℕ, IsSome, Some, length, IsTrue};
 ghost use Rattle.std.specs.FinMap as map;
 ghost use Rattle.atl_world.specs.ByNumber.{market_of};
