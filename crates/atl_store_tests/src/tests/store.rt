@@ -12,7 +12,6 @@ mod rows;
 mod schemas;
 mod script;
 mod setting;
-mod stopped;
 mod upgrading;
 mod words;
 mod writing;

@@ -1,25 +1,17 @@
-//! Tests that a founded campaign is still there after a crash of the disk.
+//! Tests that a founded campaign is still there after a crash of the store.
 use super::game::new_game;
 use super::script::play;
-use super::stopped::{new_files, open};
 use atl_store::reopen_connection;
-use sqlite::{Connection, FileStore};
-use sqlite_disk::{Crash, Disk};
+use sqlite::{Alter, Connection};
+use sqlite_trees::store::Reopen;
 use std::alloc::Global;
 use std::process::Abort;
 use std::test::Fail;
 
-fn opened_again<D: Crash + Drop>(
-    alloc: Global,
-    conn: Connection<FileStore<D>>,
-) -> Result<Connection<FileStore<D>>, Fail> {
-    Ok(reopen_connection(alloc, conn)?)
-}
-
-fn assert_reloaded<D: Crash + Drop>(
+fn assert_reloaded<S: Alter + Reopen + Drop>(
     rt: &impl Abort,
     alloc: Global,
-    mut conn: Connection<FileStore<D>>,
+    mut conn: Connection<S>,
 ) -> Result<(), Fail> {
     let mut game = new_game(alloc)?;
     play(
@@ -29,7 +21,7 @@ fn assert_reloaded<D: Crash + Drop>(
         &mut game,
         "keep_campaign\ncreate small",
     )?;
-    let mut again = opened_again(alloc, conn)?;
+    let mut again = reopen_connection(alloc, conn)?;
     play(
         rt,
         alloc,
@@ -41,7 +33,6 @@ fn assert_reloaded<D: Crash + Drop>(
 
 #[test]
 fn a_founded_campaign_is_there_after_a_crash(rt: HostRuntime) -> Result<(), Fail> {
-    let alloc = rt.alloc();
-    let conn = open(alloc, new_files(alloc)).ok_or("open")?;
-    assert_reloaded(&rt, alloc, conn)
+    let conn = Connection::open_in_memory(rt.alloc())?;
+    assert_reloaded(&rt, rt.alloc(), conn)
 }

@@ -79,7 +79,7 @@ fn person_answer<S: Alter>(
     }
 }
 
-pub(crate) fn answer<S: Alter>(
+fn answer<S: Alter>(
     alloc: Global,
     conn: &mut Connection<S>,
     game: &mut Game,
