@@ -1,8 +1,8 @@
 #!/usr/bin/env python3
 """Prints what a reader must believe of the headline, in one go: the clauses `headline` and `balances` of `run_all`
-(crates/atl_service/src/service.rt), and each definition of crates/*/specs that they rest on, once and with its place. The
-definitions come in the order of the sections of docs/RULES.md, and then those that no section names, crate by crate. The
-types of the code that they speak of follow.
+(crates/atl_commands/src/service.rt), and each definition of crates/*/specs that they rest on, once and with its place.
+The definitions come in the order of the sections of docs/RULES.md, and then those that no section names, crate by
+crate. The types of the code that they speak of follow.
 
 tests/pages/believe.py            prints all of it, then the names of the kit that it uses, and last how much it is
 tests/pages/believe.py --count    prints how much it is
@@ -27,7 +27,7 @@ sys.path.insert(0, str(TOP))
 from tests.pages import believe_antt as antt, believe_code as code  # noqa: E402
 from tests.pages.rules_index import rows  # noqa: E402
 
-SERVICE = "crates/atl_service/src/service.rt"
+SERVICE = "crates/atl_commands/src/service.rt"
 CALL, CLAUSES = "run_all", ("headline", "balances")
 # the page that gives the counts
 PAGE = "docs/PROVED.md"

@@ -8,8 +8,8 @@ use atl_world::let_go;
 use sqlite::{Alter, Connection};
 use std::alloc::{AllocError, Global};
 
-/// A public call of atl_service or atl_campaign, or `check` of atl_state, that is tried with too
-/// little memory.
+/// A public call of atl_service, atl_commands or atl_campaign, or `check` of atl_state, that is
+/// tried with too little memory.
 #[derive(Clone, Copy, Debug, PartialEq, Eq)]
 pub enum Call {
     Found,

@@ -1,5 +1,5 @@
-//! Tests of atl_service: commands and their answers, opening and upgrading files, and disks that
-//! stop.
+//! Tests of atl_service and atl_commands: commands and their answers, opening and upgrading files,
+//! and disks that stop.
 #![tactic(auto)]
 
 #[cfg(test)]

@@ -1,6 +1,6 @@
 //! Whether a campaign keeps rules 4 to 10 and 12 of the tables, each rule by a function of its own.
 //! None of them changes anything. That the books balance, of rule 11, is `are_balanced` of
-//! atl_campaign. See docs/FORMATS.md, "Rules of the tables".
+//! atl_balances. See docs/FORMATS.md, "Rules of the tables".
 mod days;
 mod gone;
 mod guards;

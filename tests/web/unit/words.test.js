@@ -60,7 +60,7 @@ test('faults of orders', () => {
 const OF_CLOSING = ['WrongMonth', 'MonthLimit', 'WrongDice'];
 
 test('refusals', () => {
-  const [, body] = /pub enum Refusal \{\n([^]*?)\n\}/.exec(read('crates/atl_service/src/command.rt'));
+  const [, body] = /pub enum Refusal \{\n([^]*?)\n\}/.exec(read('crates/atl_commands/src/command.rt'));
   const refusals = [...body.matchAll(/^ {4}(\w+)/gm)].map(([, name]) => name);
   const faults = ['Memory', 'Store', 'Closed'];
   const source = read('crates/atl_parsing/src/problem.rt');
