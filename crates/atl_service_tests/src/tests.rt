@@ -8,6 +8,7 @@ mod damage;
 mod files;
 mod founding;
 mod full;
+mod http;
 mod laws;
 mod limits;
 mod mailings;

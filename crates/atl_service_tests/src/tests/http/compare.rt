@@ -1,11 +1,6 @@
-//! Assertions for these tests, one for each type: an `assert_eq!` costs much to prove, so each is
-//! written once.
+//! More assertions for the tests of HTTP, one for each type.
 use atl_http::HttpFault;
 use std::process::Abort;
-
-pub(crate) fn assert_count(rt: &impl Abort, actual: usize, wanted: usize) {
-    assert_eq!(rt; actual, wanted);
-}
 
 pub(crate) fn assert_number(rt: &impl Abort, actual: u32, wanted: u32) {
     assert_eq!(rt; actual, wanted);
@@ -17,8 +12,4 @@ pub(crate) fn assert_fault(rt: &impl Abort, actual: Result<u16, HttpFault>, want
 
 pub(crate) fn assert_true(rt: &impl Abort, actual: bool) {
     assert!(rt; actual);
-}
-
-pub(crate) fn assert_text(rt: &impl Abort, actual: &str, wanted: &str) {
-    assert_eq!(rt; actual, wanted);
 }

@@ -1,6 +1,6 @@
 //! Tests of the verdict on the first bytes of a request, before any command runs (docs/FORMATS.md,
 //! "HTTP").
-use super::compare::assert_text;
+use crate::tests::compare::assert_text;
 use atl_http::{Verdict, pieces_do_not_matter, verdict_on};
 use std::alloc::{AllocError, Global};
 use std::process::Abort;

@@ -1,9 +1,10 @@
 //! Tests of serving connections over a socket, in one process: each peer has sent its request
 //! before any is served.
-use super::compare::{assert_text, assert_true};
+use super::compare::assert_true;
 use super::making::{assert_reply, new_service};
 use super::requests::{JOIN, JOINED, REPORT, REPORTED, TOO_LONG};
 use super::serving::HttpService;
+use crate::tests::compare::assert_text;
 use atl_http::listening::ListenFault;
 use std::alloc::Global;
 use std::io::{self, Read, Write};

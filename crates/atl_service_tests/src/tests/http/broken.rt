@@ -1,10 +1,11 @@
 //! Tests that a command has run even if its reply can't be written to the end, and tests of the
 //! numbers of faults.
-use super::compare::{assert_count, assert_fault, assert_number, assert_true};
+use super::compare::{assert_fault, assert_number, assert_true};
 use super::making::new_service;
 use super::readers_and_writers::NarrowWriter;
 use super::requests::{JOIN, JOINED};
 use super::serving::HttpService;
+use crate::tests::compare::assert_count;
 use atl_http::HttpFault;
 use std::alloc::Global;
 use std::process::Abort;

@@ -1,10 +1,12 @@
 //! Makes services, and plays tables of requests with their wanted replies.
-use super::compare::{assert_text, assert_true};
+use super::compare::assert_true;
 use super::serving::HttpService;
+use crate::tests::compare::assert_text;
+use crate::tests::making::found_in_memory;
 use atl_http::HttpFault;
-use atl_service::{Service, found};
+use atl_service::Service;
 use atl_test_worlds::SMALL_WORLD;
-use sqlite::{Connection, MemStore};
+use sqlite::MemStore;
 use std::alloc::Global;
 use std::io::Read;
 use std::process::Abort;
@@ -15,15 +17,7 @@ use std::test::Fail;
 pub(crate) type Case = (&'static str, &'static str);
 
 pub(crate) fn new_service(alloc: Global) -> Result<Service<MemStore>, Fail> {
-    match found(
-        alloc,
-        Connection::open_in_memory(alloc)?,
-        SMALL_WORLD,
-        b"gm",
-    ) {
-        Ok(service) => Ok(service),
-        Err(_) => Err(Fail::new("found")),
-    }
+    found_in_memory(alloc, SMALL_WORLD)
 }
 
 fn status_in(reply: &str) -> Option<u16> {

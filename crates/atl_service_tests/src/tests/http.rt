@@ -1,5 +1,4 @@
-//! Tests of requests, replies, readers and writers that fail, sockets and dice, and what they
-//! share.
+//! Tests of requests over HTTP, replies, readers and writers that fail, sockets and dice.
 mod broken;
 mod bytes;
 mod compare;

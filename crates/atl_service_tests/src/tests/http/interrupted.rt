@@ -1,11 +1,11 @@
 //! Tests that a request is served after up to 1,000,000 reads and fewer than 1,000,000 interrupted
 //! writes, and ends in a fault beyond that.
 use super::broken::assert_breaks_off;
-use super::compare::{assert_count, assert_text};
 use super::making::{assert_reply, new_service, outcome_text};
 use super::readers_and_writers::{NarrowWriter, Pieces};
 use super::requests::{JOIN, JOINED};
 use super::serving::HttpService;
+use crate::tests::compare::{assert_count, assert_text};
 use std::alloc::Global;
 use std::process::Abort;
 use std::test::Fail;

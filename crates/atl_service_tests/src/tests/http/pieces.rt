@@ -1,10 +1,11 @@
 //! Tests of requests that arrive in pieces or cut short, of replies written in pieces, and of long
 //! heads and bodies.
-use super::compare::{assert_count, assert_number, assert_text};
+use super::compare::assert_number;
 use super::making::{assert_books, assert_reply, new_service, outcome_text};
 use super::readers_and_writers::{NarrowWriter, Pieces};
 use super::requests::{BAD_REQUEST, JOIN, JOINED, NO_ROUTE, REPORT, REPORTED, TOO_LONG};
 use super::serving::HttpService;
+use crate::tests::compare::{assert_count, assert_text};
 use std::alloc::Global;
 use std::process::Abort;
 use std::test::Fail;

@@ -1,5 +1,7 @@
 //! Tests of requests with their whole replies (docs/FORMATS.md, "HTTP").
 use super::making::{Case, play};
+use std::alloc::Global;
+use std::process::Abort;
 use std::test::Fail;
 
 pub(crate) const JOIN: &str =
@@ -69,11 +71,6 @@ static JOINING: [Case; 6] = [
     ),
 ];
 
-#[test]
-fn joining(rt: HostRuntime) -> Result<(), Fail> {
-    play(&rt, rt.alloc(), &JOINING)
-}
-
 /// Requests and their replies: a faction joins and sends orders, a month is closed, and a second
 /// closing of it is refused.
 static A_MONTH: [Case; 4] = [
@@ -92,11 +89,6 @@ static A_MONTH: [Case; 4] = [
     ),
 ];
 
-#[test]
-fn a_month(rt: HostRuntime) -> Result<(), Fail> {
-    play(&rt, rt.alloc(), &A_MONTH)
-}
-
 /// Requests and their replies: a faction joins, quits by its orders, and is refused further orders
 /// after the month.
 static QUITTING: [Case; 4] = [
@@ -114,11 +106,6 @@ static QUITTING: [Case; 4] = [
         "HTTP/1.1 403 Forbidden\r\nContent-Type: application/json\r\nContent-Length: 27\r\nConnection: close\r\n\r\n{\"error\":\"Gone\",\"number\":7}",
     ),
 ];
-
-#[test]
-fn quitting(rt: HostRuntime) -> Result<(), Fail> {
-    play(&rt, rt.alloc(), &QUITTING)
-}
 
 /// Requests with their replies: joins, reports, closings and mailings, all but one join refused.
 static REFUSALS: [Case; 9] = [
@@ -157,11 +144,6 @@ static REFUSALS: [Case; 9] = [
     ),
 ];
 
-#[test]
-fn refusals(rt: HostRuntime) -> Result<(), Fail> {
-    play(&rt, rt.alloc(), &REFUSALS)
-}
-
 /// Heads of requests with their replies: refused ones, some with a wrong number of Host fields, and
 /// one that is cut short.
 static HEADS: [Case; 6] = [
@@ -179,11 +161,6 @@ static HEADS: [Case; 6] = [
     ("GET /report/1", "cut"),
 ];
 
-#[test]
-fn heads(rt: HostRuntime) -> Result<(), Fail> {
-    play(&rt, rt.alloc(), &HEADS)
-}
-
 /// Requests with their replies: paths without a route, and methods that a route doesn't have.
 static ROUTES: [Case; 13] = [
     ("GET / HTTP/1.0\r\n\r\n", NO_ROUTE),
@@ -200,11 +177,6 @@ static ROUTES: [Case; 13] = [
     ("DELETE /close/1 HTTP/1.0\r\n\r\n", POST_ONLY),
     ("POST /report/1 HTTP/1.0\r\n\r\n", GET_ONLY),
 ];
-
-#[test]
-fn routes(rt: HostRuntime) -> Result<(), Fail> {
-    play(&rt, rt.alloc(), &ROUTES)
-}
 
 /// Requests with their replies: bodies without a good length or with two, no or several pass texts,
 /// and three bodies that don't arrive.
@@ -261,11 +233,6 @@ static LENGTHS: [Case; 14] = [
     ),
 ];
 
-#[test]
-fn lengths(rt: HostRuntime) -> Result<(), Fail> {
-    play(&rt, rt.alloc(), &LENGTHS)
-}
-
 /// Joins with their replies: bodies that are no JSON object with the texts `name` and `pass`, and
 /// one that is. Of equal keys the last counts, and bytes after the body don't.
 static BODIES: [Case; 9] = [
@@ -304,11 +271,6 @@ static BODIES: [Case; 9] = [
     ),
 ];
 
-#[test]
-fn bodies(rt: HostRuntime) -> Result<(), Fail> {
-    play(&rt, rt.alloc(), &BODIES)
-}
-
 /// Joins with their replies: bodies with `name`, `pass` and a value that can't be read: one nested
 /// 128 deep, a number beyond 64-bit floats, or a lone surrogate. A value nested 127 deep is read,
 /// and empty lines may come before a head.
@@ -331,7 +293,21 @@ static VALUES: [Case; 4] = [
     ),
 ];
 
+/// The requests of one table go to one service, one after another.
+fn tables() -> [&'static [Case]; 9] {
+    [
+        &JOINING, &A_MONTH, &QUITTING, &REFUSALS, &HEADS, &ROUTES, &LENGTHS, &BODIES, &VALUES,
+    ]
+}
+
+fn play_all(rt: &impl Abort, alloc: Global) -> Result<(), Fail> {
+    for cases in tables().iter() {
+        play(rt, alloc, cases)?;
+    }
+    Ok(())
+}
+
 #[test]
-fn values(rt: HostRuntime) -> Result<(), Fail> {
-    play(&rt, rt.alloc(), &VALUES)
+fn requests_have_their_replies(rt: HostRuntime) -> Result<(), Fail> {
+    play_all(&rt, rt.alloc())
 }
