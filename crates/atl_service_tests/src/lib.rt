@@ -1,5 +1,5 @@
-//! Tests of atl_service and atl_commands: commands and their answers, opening and upgrading files,
-//! and disks that stop.
+//! Tests of the database and what is above it: the store, the service (commands and their answers,
+//! opening and upgrading files, disks that stop), and HTTP.
 #![tactic(auto)]
 
 #[cfg(test)]

@@ -20,6 +20,7 @@ mod refusals;
 mod remade;
 mod script;
 mod serving;
+mod store;
 mod tables;
 mod unchanged;
 mod upgrading;

@@ -17,3 +17,13 @@ pub(crate) fn assert_amount(rt: &impl Abort, actual: Option<i64>, wanted: Option
 pub(crate) fn assert_text(rt: &impl Abort, actual: &str, wanted: &str) {
     assert_eq!(rt; actual, wanted);
 }
+
+/// None means that a fault has no number.
+pub(crate) fn assert_fault_number(rt: &impl Abort, actual: Option<u8>, wanted: Option<u8>) {
+    assert_eq!(rt; actual, wanted);
+}
+
+/// The message of a failure names the case: `place`, a text.
+pub(crate) fn assert_text_at(rt: &impl Abort, place: &str, actual: &str, wanted: &str) {
+    assert_eq!(rt; actual, wanted, "at {place}");
+}

@@ -1,9 +1,0 @@
-use Rattle.atl_campaign.proofs.GoodLaws.{IsEarly-good}
-use Rattle.atl_month_tests.proofs.RoomLaws.{room_for_recruiting}
-use Rattle.atl_month_tests.proofs.tests.agreeing.run_recruit.Goals as goal
-
-pub run-requires-clause-needs : goal.run-requires-clause-needs
-run-requires-clause-needs c = IsEarly-good c.args.world.now c.args.campaign.value c.requires.good
-
-pub run-requires-clause-room : goal.run-requires-clause-room
-run-requires-clause-room c = room_for_recruiting c.args.world.now c.args.campaign.value c.requires.good
