@@ -2,7 +2,6 @@
 //! calls alone. A function here holds at most one large value (a world, a mailing) and lends it.
 //! Tables of cases are short, and each assertion of equality is written once, in `compare`. So the
 //! proofs stay short.
-mod changes;
 mod containers;
 mod faults;
 mod laws;
@@ -11,6 +10,5 @@ mod mailings;
 mod marked_map;
 mod markets;
 mod names;
-mod ranges;
 mod shown;
 mod worlds;

@@ -7,7 +7,7 @@ use std::alloc::Global;
 use std::test::Fail;
 
 /// The text of one item, one skill and one kind, which tests append to the small world.
-pub(crate) const ITEM_SKILL_KIND: &str = r#"[[item]]
+const ITEM_SKILL_KIND: &str = r#"[[item]]
 name = "wood"
 weight = 5
 carry = 0
@@ -24,7 +24,7 @@ level = 1
 "#;
 
 /// The text of a market, which belongs to the region above it.
-pub(crate) const MARKET: &str = r#"[[region.market]]
+const MARKET: &str = r#"[[region.market]]
 item = "wood"
 price = 7
 pays = 5
@@ -56,17 +56,13 @@ skill = "sailing"
 level = 1
 "#;
 
-pub(crate) fn small_with(alloc: Global, more: &str) -> Result<String, Fail> {
-    Ok(format!(in alloc; "{SMALL_WORLD}{more}")?)
-}
-
 pub(crate) fn with_markets(alloc: Global, count: usize) -> Result<String, Fail> {
     let markets = MARKET.repeat(alloc, count)?;
     Ok(format!(in alloc; "{SMALL_WORLD}{markets}{ITEM_SKILL_KIND}")?)
 }
 
 pub(crate) fn world_with(alloc: Global, more: &str) -> Result<World, Fail> {
-    let text = small_with(alloc, more)?;
+    let text = format!(in alloc; "{SMALL_WORLD}{more}")?;
     Ok(read_world(alloc, text.as_str())?)
 }
 
