@@ -79,6 +79,7 @@ try start 'python3 git xz' tests/program/start.py
 try package python3 tests/program/package.py
 try program python3 python3 -B tests/program/program.py
 try worlds python3 python3 -B tests/program/worlds.py
+try by_hand python3 python3 -B tests/program/by_hand.py
 try limits python3 python3 -B tests/program/limits.py
 try large_month python3 python3 -B tests/program/large_month.py
 try upgrade python3 python3 -B tests/program/upgrade.py

@@ -14,6 +14,8 @@ SMALL_FILE = TOP / "worlds/small.toml"
 SEED = "7"
 # How many seconds a test waits for a call, or for a server to listen or to end.
 PATIENCE = 30
+# A log of so many bytes or less holds nothing.
+EMPTY_LOG = 41
 
 
 def gm(*words: str | Path) -> str:

@@ -15,13 +15,11 @@ from pathlib import Path
 
 sys.path.insert(0, str(Path(__file__).resolve().parents[2]))
 
-from tests.program.calls import PROGRAM, SMALL_FILE, TOP, gm  # noqa: E402
+from tests.program.calls import EMPTY_LOG, PROGRAM, SMALL_FILE, TOP, gm  # noqa: E402
 
 OLD = TOP / "tests/old"
 ISLE_FILE = TOP / "worlds/isle.toml"
 SMALL, ISLE = (path.read_text(encoding="utf-8") for path in (SMALL_FILE, ISLE_FILE))
-# A log of so many bytes or less holds nothing.
-EMPTY_LOG = 41
 
 TRIAL_REPORT = """\
 Atlantis report, month 2, faction 1 "Avalon".
@@ -65,9 +63,16 @@ CHANGES = (
     ("Damaged 11", "UPDATE unit SET money = money + 1 WHERE number = 1"),
     ("Damaged 11", "INSERT INTO books VALUES (14, 0, -1); UPDATE unit SET money = money - 1 WHERE number = 1"),
     ("Damaged 12", "DELETE FROM report WHERE faction = 2"),
+    ("Store", "DROP TABLE unit"),
     ("Store", "CREATE TABLE note (words TEXT)"),
     ("Store", "CREATE INDEX of_faction ON unit (faction)"),
     ("Store", "ANALYZE"),
+)
+# The same where the file is no longer an old one, and every command answers this fault.
+NO_LONGER_OLD = (
+    ("Damaged 1", "UPDATE campaign SET format = 3"),
+    ("Damaged 1", "DELETE FROM campaign"),
+    ("NotACampaign", "DROP TABLE campaign"),
 )
 
 
@@ -208,11 +213,13 @@ class Upgrade(unittest.TestCase):
                 self.assert_refused(f"fault: {fault}", database, "upgrade", "--world", self.isle)
                 self.assert_refused("fault: OldFormat", database, "report", "--faction", "1", "--pass", "apple")
 
-    def test_another_format(self) -> None:
-        database = self.old("club.db")
-        change(database, "UPDATE campaign SET format = 3")
-        self.assert_refused("fault: Damaged 1", database, "upgrade", "--world", self.isle)
-        self.assert_refused("fault: Damaged 1", database, "report", "--faction", "1", "--pass", "apple")
+    def test_files_that_are_no_longer_old(self) -> None:
+        for fault, statements in NO_LONGER_OLD:
+            with self.subTest(statements=statements):
+                database = self.old("club.db")
+                change(database, statements)
+                self.assert_refused(f"fault: {fault}", database, "upgrade", "--world", self.isle)
+                self.assert_refused(f"fault: {fault}", database, "report", "--faction", "1", "--pass", "apple")
 
     def test_a_file_that_sqlite3_packed(self) -> None:
         database = self.old("club.db")

@@ -50,7 +50,7 @@ const MAILED: &str = "mailed 11 [FaultyLine { line: 6, fault: UnknownOrder }]";
 /// The wanted answer to the command that closes month 1, as text.
 const CLOSED: &str = "month done 1";
 
-/// The wanted answer to the command `Report`: the text that `ROWS` stores.
+/// The wanted answer to the command `Report`: the text that `MONTH_ROWS` stores.
 const REPORTED: &str = "A report.";
 
 /// Lines that Avalon's report on the month must have. Of 100 money unit 1 pays 40, and sends 2 of

@@ -48,8 +48,6 @@ money = 500
 /// The text of the small world: one region, without items, skills, kinds and markets.
 pub const SMALL_WORLD: &str = world_of_one_region!(1000, 100, 1000, "");
 
-pub const NO_START_MONEY: &str = world_of_one_region!(0, 100, 1000, "");
-
 /// The text of the small world without work places, where a faction that joins gets money for half
 /// a month.
 pub const NO_WORK_PLACES: &str = world_of_one_region!(5, 0, 1000, "");

@@ -33,7 +33,7 @@ Exits: none.
 ";
 
 /// The first report of Avalon, when it joins the island and begins in its second land region.
-pub(crate) const FAR_REPORT: &str = "Atlantis report, month 0, faction 1 \"Avalon\".
+const FAR_REPORT: &str = "Atlantis report, month 0, faction 1 \"Avalon\".
 Orders:
 None.
 Region 3 \"Far\", forest: 200 peasants, 100 money.

@@ -3,8 +3,7 @@
 use super::compare::assert_text;
 use super::courses::COURSES;
 use super::files::connected;
-use super::founding::cause_text as cause_of;
-use super::making::{answer_text, found_in_memory, open_after_sql};
+use super::making::{answer_text, cause_text, found_in_memory, open_after_sql};
 use super::opening::rows_in;
 use super::script::{Course, commands_of};
 use super::serving::AnyService;
@@ -116,7 +115,7 @@ fn service_or_connection<S: Alter>(
     match tried {
         Ok(service) => Ok(service),
         Err(Refused { why, conn }) => {
-            assert_text(rt, cause_of(&why), "store");
+            assert_text(rt, cause_text(&why), "store");
             Err(conn)
         }
     }
@@ -192,7 +191,7 @@ fn rows_left<S: Alter + Drop>(
     match open(alloc, conn) {
         Ok(service) => rows_in(alloc, &service),
         Err(Refused { why, conn: _ }) => {
-            assert_text(rt, cause_of(&why), "not a campaign");
+            assert_text(rt, cause_text(&why), "not a campaign");
             Ok(String::new(alloc))
         }
     }

@@ -1,8 +1,7 @@
-//! Tests of `Mail`: storing mailings, and refusals.
+//! Tests of `Mail`: storing mailings.
 use super::commands::JOIN_OF_AVALON;
 use super::script::{CommandSpec, Step, play};
 use super::tables::{MAIL_BYTES, MAILINGS};
-use super::unchanged::{EVERY_TABLE, assert_unchanged};
 use atl_test_worlds::SMALL_WORLD;
 use std::test::Fail;
 
@@ -36,35 +35,4 @@ static AFTER_TWO: [(&str, Option<i64>); 2] = [(MAILINGS, Some(1)), (MAIL_BYTES, 
 #[test]
 fn the_last_mailing_is_kept(rt: HostRuntime) -> Result<(), Fail> {
     play(&rt, rt.alloc(), SMALL_WORLD, &TWO_SENT, &AFTER_TWO)
-}
-
-/// Mailings that are refused, one for each refusal of `Mail`, in the campaign that the SQL
-/// `EVERY_TABLE` makes, where Avalon has sent a mailing and Bree is gone.
-static REFUSED: [Step; 7] = [
-    Step::Answers(CommandSpec::Mail(9, "no", "hello"), "no faction"),
-    Step::Answers(CommandSpec::Mail(1, "no", "hello"), "wrong pass"),
-    Step::Answers(CommandSpec::Mail(2, "pb", "hello"), "gone"),
-    Step::Answers(CommandSpec::LongMail("pw", 65_526), "too long"),
-    Step::Answers(CommandSpec::Mail(1, "pw", "hello"), "no header"),
-    Step::Answers(CommandSpec::Mail(1, "pw", "#ATLANTIS x"), "bad header"),
-    Step::Answers(CommandSpec::Mail(1, "pw", "#ATLANTIS 2"), "wrong faction"),
-];
-
-#[test]
-fn a_refused_mailing_changes_nothing(rt: HostRuntime) -> Result<(), Fail> {
-    assert_unchanged(&rt, rt.alloc(), EVERY_TABLE, &REFUSED)
-}
-
-static LIMITS: [Step; 4] = [
-    Step::Answers(JOIN_OF_AVALON, "joined"),
-    Step::Answers(CommandSpec::LongMail("pw", 65_526), "too long"),
-    Step::Keeps(None),
-    Step::Answers(CommandSpec::LongMail("pw", 65_525), "mailed"),
-];
-
-static AFTER_LONG: [(&str, Option<i64>); 2] = [(MAILINGS, Some(1)), (MAIL_BYTES, Some(65_536))];
-
-#[test]
-fn a_mailing_has_65536_bytes_at_most(rt: HostRuntime) -> Result<(), Fail> {
-    play(&rt, rt.alloc(), SMALL_WORLD, &LIMITS, &AFTER_LONG)
 }

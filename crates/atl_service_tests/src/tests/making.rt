@@ -1,6 +1,6 @@
-//! Makes the commands and services of these tests, and names answers.
+//! Makes the commands and services of these tests, and names answers and causes.
 use super::serving::Tables;
-use atl_service::{Answer, Command, Fault, Refusal, Service, found, open};
+use atl_service::{Answer, Cause, Command, Fault, Refusal, Service, found, open};
 use atl_world::Sequence;
 use sqlite::{Alter, Connection, MemStore};
 use std::alloc::Global;
@@ -23,21 +23,6 @@ pub(crate) fn mail(alloc: Global, faction: u32, pass: &str, text: &str) -> Resul
         faction,
         pass: bytes(alloc, pass)?,
         text: bytes(alloc, text)?,
-    })
-}
-
-/// The header has 11 bytes.
-fn header_and_feeds(alloc: Global, feeds: usize) -> Result<Sequence<u8>, Fail> {
-    let mut text = Vec::from_slice(alloc, b"#ATLANTIS 1")?;
-    text.extend_from_slice(&b"\n".repeat(alloc, feeds)?)?;
-    Ok(Sequence::from_vec(text))
-}
-
-pub(crate) fn long_mail(alloc: Global, pass: &str, feeds: usize) -> Result<Command, Fail> {
-    Ok(Command::Mail {
-        faction: 1,
-        pass: bytes(alloc, pass)?,
-        text: header_and_feeds(alloc, feeds)?,
     })
 }
 
@@ -115,5 +100,21 @@ pub(crate) fn answer_text(answer: &Answer) -> &str {
         Answer::Fault(Fault::Memory) => "memory",
         Answer::Fault(Fault::Store) => "store",
         Answer::Fault(Fault::Closed) => "closed",
+    }
+}
+
+/// Why a campaign was not founded, opened or upgraded, in words.
+pub(crate) fn cause_text(cause: &Cause) -> &'static str {
+    match cause {
+        Cause::World(_) => "world",
+        Cause::BadPassText => "bad pass text",
+        Cause::NotEmpty => "not empty",
+        Cause::NotACampaign => "not a campaign",
+        Cause::OldFormat => "old format",
+        Cause::NotOld => "not old",
+        Cause::Differs => "differs",
+        Cause::Damaged(_) => "damaged",
+        Cause::Store => "store",
+        Cause::Memory => "memory",
     }
 }

@@ -4,11 +4,10 @@ use super::closing::{AFTER_WORK, MONTH_ONE};
 use super::commands::{FIRST_REPORT, JOIN_OF_AVALON, REPORT_OF_BREE};
 use super::compare::assert_text;
 use super::files::{connected, new_files};
-use super::founding::assert_refused;
 use super::making::{found_service, opened};
 use super::script::{CommandSpec, Step, follow};
-use super::serving::{AnyService, Tables};
-use super::tables::assert_tables;
+use super::serving::AnyService;
+use super::transactions::assert_refused;
 use atl_campaign::Campaign;
 use atl_service::{Service, found};
 use atl_state::check;
@@ -20,13 +19,11 @@ use std::alloc::Global;
 use std::process::Abort;
 use std::test::Fail;
 
-/// What is done with a database between two openings: a world to found, steps, SQL statements, and
-/// queries afterwards. Without a world the stored campaign is opened.
-pub(crate) struct Session {
-    pub(crate) world: Option<&'static str>,
-    pub(crate) steps: &'static [Step],
-    pub(crate) by_hand: &'static str,
-    pub(crate) after: &'static [(&'static str, Option<i64>)],
+/// What is done with a database between two openings: a world to found, and steps. Without a world
+/// the stored campaign is opened.
+struct Session {
+    world: Option<&'static str>,
+    steps: &'static [Step],
 }
 
 const AVALON_COMES: [Step; 3] = [
@@ -39,13 +36,13 @@ const AVALON_COMES: [Step; 3] = [
     Step::Answers(CommandSpec::Report(1, "pw"), FIRST_REPORT),
 ];
 
-pub(crate) const BREE_COMES: [Step; 3] = [
+const BREE_COMES: [Step; 3] = [
     Step::Answers(CommandSpec::Report(1, "pw"), FIRST_REPORT),
     Step::Keeps(Some("#ATLANTIS 1\nUNIT 1\nWORK\n")),
     Step::Joined(CommandSpec::Join("Bree", "pb", 0), 2, 2),
 ];
 
-pub(crate) const BOTH_ARE_THERE: [Step; 3] = [
+const BOTH_ARE_THERE: [Step; 3] = [
     Step::Numbers(3, 3, 2),
     Step::Answers(CommandSpec::Report(1, "pw"), FIRST_REPORT),
     Step::Answers(CommandSpec::Report(2, "pb"), REPORT_OF_BREE),
@@ -82,7 +79,7 @@ fn rows_after(
     rows_in(alloc, service)
 }
 
-pub(crate) fn assert_rows(
+fn assert_rows(
     rt: &impl Abort,
     alloc: Global,
     service: &impl AnyService,
@@ -117,11 +114,8 @@ fn played<S: Alter + Drop>(
         assert_rows(rt, alloc, &service, rows)?;
     }
     let rows = rows_after(rt, alloc, &mut service, session.steps);
-    let mut conn = service.end();
-    let rows = rows?;
-    conn.change(session.by_hand)?;
-    assert_tables(rt, &mut conn, session.after);
-    Ok((rows, conn))
+    let conn = service.end();
+    Ok((rows?, conn))
 }
 
 fn play_on_connection(
@@ -138,7 +132,7 @@ fn play_on_connection(
 }
 
 /// Plays sessions in files that are closed and opened between one session and the next.
-pub(crate) fn play_in_files<D: Disk + Drop>(
+fn play_in_files<D: Disk + Drop>(
     rt: &impl Abort,
     alloc: Global,
     files: Files<D>,
@@ -190,14 +184,10 @@ static MONTH_STAYS_CLOSED: [Session; 2] = [
     Session {
         world: Some(SMALL_WORLD),
         steps: &A_MONTH,
-        by_hand: "",
-        after: &[],
     },
     Session {
         world: None,
         steps: &AFTER_A_MONTH,
-        by_hand: "",
-        after: &[],
     },
 ];
 
@@ -218,20 +208,14 @@ static REOPENED_TWICE: [Session; 3] = [
     Session {
         world: Some(SMALL_WORLD),
         steps: &AVALON_COMES,
-        by_hand: "",
-        after: &[],
     },
     Session {
         world: None,
         steps: &BREE_COMES,
-        by_hand: "",
-        after: &[],
     },
     Session {
         world: None,
         steps: &BOTH_ARE_THERE,
-        by_hand: "",
-        after: &[],
     },
 ];
 
@@ -249,43 +233,4 @@ fn a_campaign_is_opened_on_its_connection(rt: HostRuntime) -> Result<(), Fail> {
 #[test]
 fn a_campaign_is_opened_from_its_files(rt: HostRuntime) -> Result<(), Fail> {
     play_in_files(&rt, rt.alloc(), new_files(rt.alloc()), &REOPENED_TWICE)
-}
-
-/// SQL that adds a person's own table with an index to the database: `notes`, which has one note.
-const NOTES: &str = "CREATE TABLE notes (number INTEGER NOT NULL, words TEXT NOT NULL);
-CREATE INDEX notes_by_words ON notes (words);
-INSERT INTO notes (number, words) VALUES (7, 'pay the printer')";
-
-pub(crate) const NOTED: [(&str, Option<i64>); 2] = [
-    ("SELECT count(*) FROM notes", Some(1)),
-    (
-        "SELECT number FROM notes WHERE words = 'pay the printer'",
-        Some(7),
-    ),
-];
-
-static WITH_NOTES: [Session; 3] = [
-    Session {
-        world: Some(SMALL_WORLD),
-        steps: &AVALON_COMES,
-        by_hand: NOTES,
-        after: &NOTED,
-    },
-    Session {
-        world: None,
-        steps: &BREE_COMES,
-        by_hand: "",
-        after: &NOTED,
-    },
-    Session {
-        world: None,
-        steps: &BOTH_ARE_THERE,
-        by_hand: "",
-        after: &NOTED,
-    },
-];
-
-#[test]
-fn a_table_of_a_persons_own_is_carried_along(rt: HostRuntime) -> Result<(), Fail> {
-    play_in_files(&rt, rt.alloc(), new_files(rt.alloc()), &WITH_NOTES)
 }

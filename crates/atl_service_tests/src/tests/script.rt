@@ -1,9 +1,7 @@
 //! Tables of steps: commands with their wanted answers, and what the campaign must then be. Plays
 //! them and asserts each.
 use super::compare::{assert_count, assert_number, assert_text};
-use super::making::{
-    answer_text, close, found_in_memory, join, long_mail, mail, open_after_sql, report,
-};
+use super::making::{answer_text, close, found_in_memory, join, mail, open_after_sql, report};
 use super::serving::AnyService;
 use super::tables::assert_tables;
 use atl_service::{Answer, Command};
@@ -17,8 +15,6 @@ pub(crate) enum CommandSpec {
     Join(&'static str, &'static str, u32),
     /// A faction, its pass text and a mailing.
     Mail(u32, &'static str, &'static str),
-    /// The first faction's pass text, and how many line feeds follow a header of 11 bytes.
-    LongMail(&'static str, usize),
     /// A month, the moderator's pass text and the words of the dice.
     Close(u32, &'static str, &'static [u32]),
     /// A faction and its pass text.
@@ -48,7 +44,6 @@ fn command_of(alloc: Global, asked: &CommandSpec) -> Result<Command, Fail> {
     match asked {
         CommandSpec::Join(name, pass, word) => join(alloc, name, pass, *word),
         CommandSpec::Mail(faction, pass, text) => mail(alloc, *faction, pass, text),
-        CommandSpec::LongMail(pass, feeds) => long_mail(alloc, pass, *feeds),
         CommandSpec::Close(month, pass, words) => close(alloc, *month, pass, words),
         CommandSpec::Report(faction, pass) => report(alloc, *faction, pass),
     }
