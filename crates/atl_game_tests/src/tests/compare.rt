@@ -22,6 +22,11 @@ pub(crate) fn assert_count(rt: &impl Abort, actual: usize, wanted: usize) {
     assert_eq!(rt; actual, wanted);
 }
 
+/// None means that a fault has no number.
+pub(crate) fn assert_fault_number(rt: &impl Abort, actual: Option<u8>, wanted: Option<u8>) {
+    assert_eq!(rt; actual, wanted);
+}
+
 pub(crate) fn assert_text(rt: &impl Abort, actual: &str, wanted: &str) {
     assert_eq!(rt; actual, wanted);
 }
