@@ -43,8 +43,10 @@ reported_with w c faction faults events = with_report c faction (report_of w (vi
 abbrev pub reported_to : WorldValue → (ℕ → List FaultyLine) → List Event → CampaignValue → ℕ → CampaignValue
 reported_to w faults events c faction = reported_with w c faction (faults faction) events
 
--- The campaign `after` with the month counted, the mail removed, and new reports for the factions not gone in `before`.
--- `before` is the campaign before the month; `after` and `events` are what the month's phases give (`month_of`).
+-- The campaign once a month is closed. `before` is the campaign before the month; `after` and `events` are what the
+-- month's phases give (`month_of`). It is `after` with the number of the month last closed one higher, and without
+-- mail. Each faction that isn't gone in `before` gets a new report: the faulty lines of its mailing in `before`, its
+-- own events, and what it sees once the month is closed.
 abbrev pub with_month_reports : WorldValue → CampaignValue → CampaignValue × List Event → CampaignValue
 with_month_reports w before (after, events) =
     fold (reported_to w (λ n. faults_in w (get before.mail n)) events) (after_month after) (active before)

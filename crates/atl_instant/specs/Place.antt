@@ -59,8 +59,9 @@ with_unit_inside c n region from s = if from == s then c else with_place c n reg
 unfoldable pub enter : (n s : ℕ) → OrderEffect
 enter n s c u = fault_or c (enter_fault c s u) (with_unit_inside c n u.region u.structure s, Done 0)
 
--- Why unit n can't make unit `to` the owner of the structure that n is inside; None where it can. It is NotInside where
--- n is inside none, NotOwner where n doesn't own it, or NotHere where `to` isn't inside it.
+-- Why unit n, given as it is, can't make unit `to` the owner of the structure that n is inside; None where it can. It
+-- is the first of these that fits: NotInside where n is inside none, NotOwner where n doesn't own that structure,
+-- NotHere where `to` isn't there or isn't inside it.
 abbrev pub promote_fault : CampaignValue → (n to : ℕ) → Unit → Option EventFault
 promote_fault c n to u = first_fault (
     (u.structure == 0, NotInside)

@@ -47,7 +47,8 @@ with_loss c t amount = with_booking c (loss_entry t) t (neg_ℤ (pos amount))
 abbrev pub with_item_loss : CampaignValue → ℕ × ℕ → CampaignValue
 with_item_loss c (item, amount) = with_loss c (Item item) amount
 
--- the campaign in which all that a unit holds is booked as gone: its men, its money and each of its items
+-- the campaign in which all that a unit holds is booked as gone from it: its men as left, its money and each of its
+-- items as lost; only the books change
 abbrev pub with_all_losses : CampaignValue → HoldingValue → CampaignValue
 with_all_losses c h = fold with_item_loss (with_loss (with_loss c People h.men) Money h.money) (entries h.items)
 

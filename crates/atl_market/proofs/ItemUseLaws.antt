@@ -154,7 +154,9 @@ module _ (w : WorldValue) (c : CampaignValue) (n i k : ℕ) where
   held_within : (u : Unit) → get c.units n ≡ Some u → IsSteady w c → amount_of u.holding.items i ≤ holding_limit
   held_within u is steady = amount_within u.holding i (steady.numbers.units n u is).1
 
-  -- using at most `limit` of an item of the world that a unit holds keeps a steady campaign steady, and books just that
+  -- If unit n, which is u, uses k pieces of an item of the world, at most `limit` and at most what it holds, a steady
+  -- campaign stays steady and of the same month, and its books balance if they did before. Of the books only the item's
+  -- amount under the entry used moves, by at most `limit` (`LeavesWell`).
   pub used_up_to : (limit : ℕ) → k ≤ limit → (u : Unit) → get c.units n ≡ Some u → i < length w.items
       → k ≤ amount_of u.holding.items i → IsSteady w c
       → LeavesWell IsSteady (moves_only limit entries.Used (Item i)) w c (with_used c n i k)

@@ -26,7 +26,8 @@ later_move = each_also (λ phase (is : KeepsPhaseLaws phase). is.moves) later_ph
 pub each_little : PhasesMoveLittle
 each_little = (early_move, later_move, last_move)
 
--- the phases of a month together move each amount by at most 10^14 - 1 for each phase that may move it (`month_moves`)
+-- for each amount of the books, the bounds of all phases of a month added up are at most 10^14 - 1 for each phase that
+-- may move the amount (`month_moves`)
 pub month_within : IsBoundWithin phases_bound month_moves
 month_within e t =
     omega (arith, moved_within early_phases early_move e t, moved_within later_phases later_move e t, moved_within last_phases last_move e t)
@@ -43,6 +44,6 @@ two_at_most e People =
 two_at_most e (Item i) =
     is_two_at_most (moving_phase_count e (Item i)) (each_entry (λ k. nat_le (moving_phase_count k (Item i)) 2) refl e)
 
--- the phases of a month together move each amount by at most 2*10^14 (`moves_in_month`)
+-- for each amount of the books, the bounds of all phases of a month added up are at most 2*10^14 (`moves_in_month`)
 pub phases_little : IsBoundWithin phases_bound moves_in_month
 phases_little e t = omega (arith, month_within e t, two_at_most e t)

@@ -168,7 +168,9 @@ entries_from world n state given lines = flat_map entry_of (effects world n stat
 abbrev pub faults_from : WorldValue → ℕ → ReaderState → (ℕ → Bool) → List (List ℕ) → List FaultyLine
 faults_from world n state given lines = flat_map fault_of (effects world n state given lines)
 
--- The orders and faulty lines by the function `effects` are those that the rules `BodySays` allow, and no others.
+-- The law for any list of lines after the header, of which the first has the number n. The orders and the faulty lines
+-- that the function `effects` gives are those that the rules `BodySays` allow, in the same order, and no others. This
+-- holds for any world, any state of the reader before the lines, and any aliases given so far.
 abbrev pub BodyRules : Type 0
 BodyRules =
     ((world : WorldValue) (n : ℕ) (state : ReaderState) (given : ℕ → Bool) (lines : List (List ℕ))

@@ -69,8 +69,8 @@ module _ (is_of : Verb → Bool) (aliases : Aliases) (ms : List Mailing) (at : �
       tasks = ap (λ ts. map (task_at ms) list ++ ts) (sym (opened i h ∙ ap (λ b. cond b (task_at ms (place_of i) ∷ rest_from (i + 1)) (rest_from (i + 1))) skipped)) ∙ before.tasks;
     }
 
-    -- if the order at i counts for the phase, the list with its index at the end has all that count before i + 1
-    -- (`Added`)
+    -- If the mailings `ms` have one at `at`, and its order at i counts for the phase, then the list with the index of
+    -- this order at its end has the indices of `old`, and then those of all orders that count before i + 1 (`Added`).
     pub pushed : at < length ms → counts i ≡ true → Added old (i + 1) (list ++ place_of i ∷ [])
     pushed within counted = record {
       there = λ all. All-push (IsThere ms) list (place_of i) (before.there all) (record { mailing = within; entry = h });

@@ -34,8 +34,8 @@ stays_well holds w c d still same books totals = record {
   uses_bound = λ e t. bound_unused_by 0 0 (amount_in c.books e t) (amount_in d.books e t) refl (ap (λ b. amount_in b e t) books);
 }
 
--- a step that leaves month, books and totals as they are, and after which the campaign is early, keeps the books in
--- balance within a remaining bound of 0 (`StepsWell`)
+-- Let a step from c to d leave month, books and totals as they are, and let d be early. Then the step is as `StepsWell`
+-- says: the books balance if they did before, and no amount of the books moves.
 pub unbooked_well : (w : WorldValue) (c d : CampaignValue) → IsEarly w d → IsSameMonth c d → d.books ≡ c.books
     → ((t : Thing) → total d t ≡ total c t) → StepsWell IsEarly nothing_remaining w c d
 unbooked_well = stays_well IsEarly

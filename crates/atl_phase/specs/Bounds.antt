@@ -41,8 +41,9 @@ HaveRoom book_bound c = (e : BooksEntry) (t : Thing) → HasRoom (book_bound e t
 abbrev pub RemainingBound : Type 0
 RemainingBound = CampaignValue → BookBound
 
--- an amount of the books moves from `before` to `after`, up or down, by at most what its remaining bound falls in the
--- same step: from `remaining` to `left`
+-- A step moves an amount of the books from `before` to `after`, up or down. `remaining` says how far this step and all
+-- later ones may move it, and `left` how far the later ones may. The step moves it by at most `remaining` less `left`,
+-- so `left` isn't above `remaining`.
 pub record UsesBound (remaining left : ℕ) (before after : ℤ) : Type 0 where
   pub above : (after +ℤ pos left) ≤ℤ (before +ℤ pos remaining)
   pub below : (before +ℤ pos left) ≤ℤ (after +ℤ pos remaining)

@@ -85,7 +85,8 @@ pub is_int_at : (rows : List Row) (r : Row) → AllByRecursion (λ r. is_int (ro
     → rowid r ≡ Int (id_in (rowid r))
 is_int_at rows r ints h = int_is (rowid r) (all_has _ rows r ints h)
 
--- `found` has the rowids of the rows that pass the test p. Once these rows are taken out, exactly those that fail the
+-- The rowids of `rows` are integers, no two alike. `found` has exactly the rowids of the rows that pass the test p,
+-- each as a row of one column (`AreFound`). Once the rows with these rowids are taken out, exactly those that fail the
 -- test are left.
 module _ (p : Row → Bool) (rows found : List Row) (keyed : AreKeyedByRowid rows) (are : AreFound p rows found) where
   pub stays : (r : Row) → Has rows r → p r ≡ false → Has (without_all rows (ids_of found)) r

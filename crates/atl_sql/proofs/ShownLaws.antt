@@ -11,8 +11,9 @@ use Rattle.sqlite_rules.proofs.ListLemmas.{has_at, has_either}
 use Rattle.atl_columns.specs.Forms.{Form, HasForm, IsTyped, IsTypedFrom}
 use Rattle.atl_sql.specs.Stored.{AreTyped}
 
--- The rows that a SELECT showed, each cut by `first`, are the rows `tree` of the table, each as `shown` gives it.
--- Premises: it showed all rows, and the cut changes no row that `shown` gives.
+-- Let the rows that a SELECT showed be, in some order, all the rows `tree` of the table, each as `shown` gives it. Let
+-- the cut `first` change no row that `shown` gives. Then the rows that were shown, each cut by `first`, are these rows
+-- too, in some order.
 pub whole_shown : (shown first : Row → Row) → ((r : Row) → first (shown r) ≡ shown r) → (tree rows : List Row)
     → IsPermutation (map shown tree) rows → IsPermutation (map shown tree) (map first rows)
 whole_shown shown first whole tree rows same = subst (λ l. IsPermutation l (map first rows)) (kept tree) (IsPermutation-map first _ rows same)

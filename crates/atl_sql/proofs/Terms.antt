@@ -46,7 +46,8 @@ upsert_finds_number a n rest none integer = (
   λ same. and_true_or_false _ rest none ∙ ap (λ v. equal Binary v (int n)) (head_is _ _ _ _ same) ∙ is_equal (int n) refl,
 )
 
--- the test of a DELETE finds a row, whose rowid is the integer `a`, exactly if its number is `n`
+-- `a` is an integer: the rowid of a row, which is its number and its whole key. The test by which a DELETE of the
+-- number `n` finds the row is true exactly if `a` is `n`.
 pub delete_finds_number : (a : Value) (n : ℕ) → is_int a ≡ true
     → ((equal Binary a (int n) && true) ≡ true → ◌≡◌ {A = Row} (a ∷ []) (int n ∷ []))
     × (◌≡◌ {A = Row} (a ∷ []) (int n ∷ []) → (equal Binary a (int n) && true) ≡ true)

@@ -122,7 +122,9 @@ goods_put row is =
     let (s, t, a, vs_are) = pair_of sort thing (codes "amount") vs rest in
     rw (row_is, vs_are) (puts_has u s t a)
 
--- the upsert of a part puts a row that can be written
+-- Of any part but the campaign row: if the upsert of a row that can be written ends without an error, in a database
+-- with the ten tables, it puts the row into the part's table, in place of the row with the same key if there is one
+-- (`PutsRow`).
 pub puts_any : (part : Part) → IsWrittenPart part → (row : Row)
     → can_be_written (table_of part).columns (key_width_of part) row ≡ true → PutsRow (table_of part) (key_width_of part) row
 puts_any Own is row writable = absurd is

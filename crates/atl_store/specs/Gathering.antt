@@ -293,8 +293,9 @@ pub record GathersAll (f : Format) {S : Type 0} (g : Ghosts S) (old : Held S) (w
   pub keyed : HasTablesOf f old.schema → (table : Table) → Has (tables_with_rowids f) table
       → AreKeyedByRowid ((state g old).now.trees table.tree)
 
--- After the reads: the schema of `old` begins with the format's tables, and the trees of `old` list it and obey it
--- (`IsSound`). The connection `new` is open.
+-- The tables of the file are those of the format. The schema of `old`, the state before the reads, begins with the
+-- format's tables and their indexes, and has no views; what follows puts no rule on these tables (`HasTablesOf`). The
+-- trees of `old` list this schema and obey it (`IsSound`). After the reads the connection is open (`new`).
 pub record IsConfirmed (f : Format) (old new : State) : Type 0 where
   pub begins : HasTablesOf f old.now.schema
   pub is_open : IsTrue new.is_open

@@ -92,7 +92,8 @@ upkeep_keeps w m before after =
     get after.units n ≡ Some (record u { holding = after_upkeep upkeep_result u.holding }))
     before.units
 
--- the specification of upkeep: it books Upkeep of money and Starved of people, each by less than 10^14, and changes
--- units only by their upkeep (`upkeep_keeps`)
+-- The specification of upkeep. Its effect is `upkeep_meaning`. It moves the money of the entry upkeep and the people of
+-- the entry starved, each by less than 10^14, and no other amount of the books. Each unit is still there, changed only
+-- by its own upkeep (`upkeep_keeps`).
 abbrev pub upkeep_spec : PhaseSpec
 upkeep_spec = books_money_and_people Upkeep Starved upkeep_meaning upkeep_keeps

@@ -110,7 +110,9 @@ module _ {V : Type 0} (lines : ℕ → V → List Row) (more : ℕ) (values : Fi
         let puts = PutsRows table (suc more) (lines n v) in
         inside_weaker HasTables (DoesBoth drops puts) (RewritesGroup table Wanted n) old new (λ has did. lines_rewrite old.now did.0 new.now did.1 v there did.2) (inside_then HasTables drops puts old mid new one two)
 
-    -- if no value has the number `n`, deleting the rows of `n` rewrites them
+    -- If no value has the number `n`, no wanted row begins with `n`. So it is enough to delete the rows that begin with
+    -- `n`: then the rows of `n` are just the wanted ones, that is none, and all other rows and tables stay
+    -- (`RewritesGroup`).
     pub bare_done : get values n ≡ None → (old new : State) → DoesInside HasTables (Drops table 1 (int n ∷ [])) old new
         → DoesInside HasTables (RewritesGroup table Wanted n) old new
     bare_done none old new did =

@@ -63,7 +63,8 @@ goods_lines unit held = kind_lines unit Item (entries held.items) ++ kind_lines 
 abbrev pub unit_goods_lines : ℕ → Unit → List Row
 unit_goods_lines n unit = goods_lines n unit.holding
 
--- the rows of the table `has` for all amounts of items and skills that aren't 0, one unit after another
+-- the rows of the table `has` for the listed units, each given with its number, in the order of the list: for each unit
+-- a row for each item, and then for each skill, whose amount isn't 0
 abbrev pub all_goods_lines : List (ℕ × Unit) → List Row
 all_goods_lines units = groups_of unit_goods_lines units
 
