@@ -34,7 +34,10 @@ use Rattle.atl_records.specs.Holdings.{IsHolding}
 use Rattle.atl_records.specs.Limits.{last_month, most_units, last_unit, men_limit, holding_limit, most_structures, most_u32}
 use Rattle.atl_campaign.specs.RowRules.{is_from, campaign_row_in_range, faction_in_range, region_in_range, unit_in_range, has_in_range, structure_in_range, books_in_range, books_bound, market_in_range, are_few, first_tables_in_range, numbers_in_range, AreRowsInRange}
 use Rattle.atl_campaign.specs.Stocks.{stock_limit}
+use Rattle.atl_rows.specs.RowColumns.{read_row}
+use Rattle.atl_rows.specs.UnitColumns.{unit_columns, unit_fields}
 use Rattle.atl_campaign.proofs.AssemblyLaws.{AreAmounts-had}
+use Rattle.atl_campaign.proofs.ColumnLaws.{AreFrom, read_from}
 use Rattle.atl_campaign.proofs.ReadBackLaws.{every_by}
 use Rattle.atl_records.proofs.AccountLaws.{index_of_thing_at}
 use Rattle.atl_records.proofs.BookLaws.{AreBooks-no_amounts, AreBooks-with_amount}
@@ -158,34 +161,15 @@ structure_ranges w r h =
     let size = size_of w (as_u16 r.kind) in
     in_range 1 size most_u32 r.done (omega arith) (and_parts (is_from 1 most_structures r.number) (is_from 1 size r.done) h).1
 
--- the number, the men, the money and the guard flag of a row of the table `unit` are in their ranges
-pub record UnitRanges (r : StoredUnit) : Type 0 where
-  pub number : is_from 1 last_unit r.number ≡ true
-  pub men : is_from 1 men_limit r.men ≡ true
-  pub money : is_from 0 holding_limit r.money ≡ true
-  pub guard : is_from 0 1 r.guard ≡ true
-
-pub unit_ranges : (r : StoredUnit) → unit_in_range r ≡ true → UnitRanges r
-unit_ranges r h =
-    let number = is_from 1 last_unit r.number in
-    let men = is_from 1 men_limit r.men in
-    let money = is_from 0 holding_limit r.money in
-    let outer = and_parts ((number && men) && money) (is_from 0 1 r.guard) h in
-    let middle = and_parts (number && men) money outer.0 in
-    let inner = and_parts number men middle.0 in
-    record { number = inner.0; men = inner.1; money = middle.1; guard = outer.1 }
+-- the numbers that are read from a row of `unit` in range are in their ranges
+pub unit_numbers : (r : StoredUnit) → unit_in_range r ≡ true → AreFrom unit_columns (read_row unit_columns (unit_fields r))
+unit_numbers r h = read_from unit_columns refl true (unit_fields r) h
 
 unit_ranges_read : (has : List StoredHas) (r : StoredUnit) → list_all has_in_range has ≡ true → unit_in_range r ≡ true
     → (1 ≤ as_u32 r.number) × IsHolding (unit_of has r).holding
 unit_ranges_read has r all h =
-    let ranges = unit_ranges r h in (
-      (in_range 1 last_unit most_u32 r.number (omega arith) ranges.number).0,
-      record {
-        men = (in_range 1 men_limit most_u32 r.men (omega arith) ranges.men).1;
-        money = (in_range 0 holding_limit most_u32 r.money (omega arith) ranges.money).1;
-        items = AreAmounts-had (as_u32 r.number) has all;
-      },
-    )
+    let (least, most, (some, men, (none, money, rest))) = unit_numbers r h in
+    (least, record { men = men; money = money; items = AreAmounts-had (as_u32 r.number) has all })
 
 -- the campaign row and all rows of the other tables, but for mail and reports, pass the test of their ranges
 pub record NumberRanges (w : WorldValue) (p : Parts) : Type 0 where
@@ -260,7 +244,7 @@ module _ (w : WorldValue) (p : Parts) (h : AreRowsInRange w p) where
   unfolding campaign_of
   HaveMen-said =
       let ranges = number_ranges w p h.numbers in
-      by_number-every (λ r. as_u32 r.number) (unit_of p.has) (λ n u. 1 ≤ u.holding.men) unit_in_range (λ r good. (in_range 1 men_limit most_u32 r.men (omega arith) (unit_ranges r good).men).0) p.units ranges.units
+      by_number-every (λ r. as_u32 r.number) (unit_of p.has) (λ n u. 1 ≤ u.holding.men) unit_in_range (λ r good. (unit_numbers r good).2.0) p.units ranges.units
 
   -- the counts and numbers of the campaign assembled from rows in range are in their ranges (AreInRange)
   pub AreInRange-said : AreInRange w (campaign_of w p)

@@ -2,6 +2,7 @@ pub mod CoverLaws
 pub mod RegionLaws
 pub mod AssemblyLaws
 pub mod ReadBackLaws
+pub mod ColumnLaws
 pub mod GroupLaws
 pub mod AddedRowLaws
 pub mod TotalLaws

@@ -26,23 +26,8 @@ use Rattle.atl_records.specs.Books.{BooksValue, entry_numbered, no_amounts, thin
 use Rattle.atl_campaign.specs.Founding.{thing_count}
 use Rattle.atl_campaign.specs.Rows.{is_zero}
 use Rattle.atl_campaign.specs.Campaign.{CampaignValue}
-
--- a number from 0 to `most` as it is, and `most` for any other
-abbrev pub clamp : ℕ → ℤ → ℕ
-clamp most (pos n) = min n most
-clamp most (negsuc n) = most
-
--- a number of a row as one of 32 bits; a negative or larger one is read as the largest, which is above all limits
-abbrev pub as_u32 : ℤ → ℕ
-as_u32 z = clamp most_u32 z
-
--- a number of a row as one of 16 bits; a negative or larger one is read as the largest
-abbrev pub as_u16 : ℤ → ℕ
-as_u16 z = clamp most_u16 z
-
--- whether a flag of a row is set: any number but 0
-abbrev pub is_set : ℤ → Bool
-is_set z = not (is_zero z)
+pub use Rattle.atl_rows.specs.RowValues.{clamp, as_u32, as_u16, is_set}
+pub use Rattle.atl_campaign.specs.UnitRows.{unit_with_goods}
 
 -- the faction that a row of `faction` says
 abbrev pub faction_of : StoredFaction → Faction
@@ -71,22 +56,6 @@ is_of_unit_and_sort n sort r = (as_u32 r.unit == n) && (as_u32 r.sort == sort)
 -- the amounts that the rows of `has` give unit n: of items (sort 0) or of days of skills (sort 1), by their numbers
 abbrev pub things_had : ℕ → ℕ → List StoredHas → FinMap nat_cmp ℕ
 things_had n sort has = by_number (λ r. as_u32 r.thing) (λ r. as_u32 r.amount) (filter (is_of_unit_and_sort n sort) has)
-
--- the unit that a row of `unit` says, with the given items and days of study
-abbrev pub unit_with_goods : StoredUnit → FinMap nat_cmp ℕ → FinMap nat_cmp ℕ → Unit
-unit_with_goods r items days = record {
-  faction = as_u32 r.faction;
-  region = as_u32 r.region;
-  structure = as_u32 r.structure;
-  holding = record {
-    name = r.name;
-    men = as_u32 r.men;
-    money = as_u32 r.money;
-    guard = is_set r.guard;
-    items = items;
-    days = days;
-  };
-}
 
 -- the unit that a row of `unit` says, with the items and days of study that the rows of `has` give to it
 abbrev pub unit_of : List StoredHas → StoredUnit → Unit

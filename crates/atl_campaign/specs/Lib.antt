@@ -13,6 +13,7 @@ pub mod Marks
 pub mod Regions
 pub mod RegionLending
 pub mod Rows
+pub mod UnitRows
 pub mod RowRules
 pub mod Owners
 pub mod Roster

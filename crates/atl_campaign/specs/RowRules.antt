@@ -32,14 +32,11 @@ use Rattle.atl_rows.specs.declared.parts.StoredMarket.{StoredMarket}
 use Rattle.atl_campaign.specs.FromRows.{as_u32, as_u16, campaign_row_of}
 use Rattle.atl_campaign.specs.Founding.{thing_count}
 use Rattle.atl_campaign.specs.Campaign.{CampaignValue}
+pub use Rattle.atl_rows.specs.RowValues.{is_from}
+pub use Rattle.atl_campaign.specs.UnitRows.{unit_in_range}
 use Rattle.std.specs.FinMap.{get}
 use Rattle.atl_campaign.specs.Rows.{is_zero}
 use Rattle.atl_campaign.specs.Stocks.{stock_limit}
-
--- whether a number is from `low` to `high`
-abbrev pub is_from : ℕ → ℕ → ℤ → Bool
-is_from low high (pos n) = nat_le low n && nat_le n high
-is_from low high (negsuc n) = false
 
 -- whether there is exactly one campaign row, with the id 1 and the number of the given format
 abbrev pub is_one_campaign_row : Format → List StoredCampaignRow → Bool
@@ -71,12 +68,6 @@ faction_in_range r = is_from 1 last_faction r.number && is_from 0 1 r.gone
 -- whether the peasants and the money of a row of `region` are each 0 to 999,999,999
 abbrev pub region_in_range : StoredRegion → Bool
 region_in_range r = is_from 0 most_amount r.peasants && is_from 0 most_amount r.money
-
--- whether a unit row's number is 1 to 999,999,999, its men 1 to 999,999, its money 0 to 999,999,999, and its guard flag
--- 0 or 1
-abbrev pub unit_in_range : StoredUnit → Bool
-unit_in_range r =
-    ((is_from 1 last_unit r.number && is_from 1 men_limit r.men) && is_from 0 holding_limit r.money) && is_from 0 1 r.guard
 
 -- whether a row of `has` is of a skill (sort 1), with any amount of days, or of 1 to 999,999,999 of an item (sort 0)
 abbrev pub has_in_range : StoredHas → Bool

@@ -1,7 +1,7 @@
 -- The rows that a campaign has in each table of a format, in the order of their keys. See docs/FORMATS.md, "Tables".
 -- A name as `faction` is that of a table; the table `has` has the items and days of study of units. No amount of 0
 -- of an item, a skill or a stock has a row.
-use Rattle.std.specs.Prelude.{◌+◌, ◌++◌, ℕ, ℤ, pos, Bool, true, false, not, List, [], ◌∷◌, map, filter}
+use Rattle.std.specs.Prelude.{◌+◌, ◌++◌, ℕ, ℤ, pos, not, List, [], ◌∷◌, map, filter}
 use Rattle.std.specs.List.{flat_map}
 use Rattle.std.specs.List.Sorted.{IsPermutation}
 use Rattle.std.specs.FinMap.{entries}
@@ -12,7 +12,6 @@ use Rattle.atl_rows.specs.declared.parts.Parts.{Parts}
 use Rattle.atl_rows.specs.declared.parts.StoredCampaignRow.{StoredCampaignRow}
 use Rattle.atl_rows.specs.declared.parts.StoredFaction.{StoredFaction}
 use Rattle.atl_rows.specs.declared.parts.StoredRegion.{StoredRegion}
-use Rattle.atl_rows.specs.declared.parts.StoredUnit.{StoredUnit}
 use Rattle.atl_rows.specs.declared.parts.StoredHas.{StoredHas}
 use Rattle.atl_rows.specs.declared.parts.StoredStructure.{StoredStructure}
 use Rattle.atl_rows.specs.declared.parts.StoredMail.{StoredMail}
@@ -25,16 +24,13 @@ use Rattle.atl_records.specs.declared.records.Structure.{Structure}
 use Rattle.atl_records.specs.declared.records.Unit.{Unit}
 use Rattle.atl_records.specs.Holdings.{HoldingValue}
 use Rattle.atl_campaign.specs.Campaign.{CampaignValue}
+pub use Rattle.atl_rows.specs.RowValues.{flag}
+pub use Rattle.atl_campaign.specs.UnitRows.{unit_row}
 pub use Rattle.atl_records.specs.Books.{is_zero}
 use Rattle.atl_records.specs.Books.{Account, BooksValue, amount_in, entry_index, thing_index}
 use Rattle.atl_records.specs.Grids.{listed_of}
 use Rattle.atl_records.specs.declared.books.BooksEntry.{BooksEntry}
 use Rattle.atl_records.specs.declared.books.Thing.{Thing}
-
--- a flag as the number of a row: 1 where it is set, else 0
-abbrev pub flag : Bool → ℤ
-flag true = pos 1
-flag false = pos 0
 
 -- the campaign row of a campaign in a format, with the id 1 and without the world text
 abbrev pub campaign_row : Format → CampaignValue → StoredCampaignRow
@@ -55,19 +51,6 @@ faction_row n f = record { number = pos n; joined_as = f.joined_as; name = f.nam
 -- the row of `region` for region n: its peasants and money, without its stocks
 abbrev pub region_row : ℕ → Region → StoredRegion
 region_row n r = record { number = pos n; peasants = pos r.peasants; money = pos r.money }
-
--- the row of `unit` for unit n: all that it has but its items and days of study
-abbrev pub unit_row : ℕ → Unit → StoredUnit
-unit_row n u = record {
-  number = pos n;
-  faction = pos u.faction;
-  name = u.holding.name;
-  region = pos u.region;
-  structure = pos u.structure;
-  men = pos u.holding.men;
-  money = pos u.holding.money;
-  guard = flag u.holding.guard;
-}
 
 -- the row of `structure` for structure n: its kind, name, region, how much is done, and its owner
 abbrev pub structure_row : ℕ → Structure → StoredStructure

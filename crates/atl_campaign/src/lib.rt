@@ -8,6 +8,7 @@ mod regions;
 mod row_values;
 mod rows;
 mod totals;
+mod unit_rows;
 mod units;
 
 pub use atl_containers::SlotEntries;
@@ -20,4 +21,5 @@ pub use atl_records::{
 pub use atl_rows::{Parts, parts};
 pub use campaign::{Campaign, assemble, founded};
 pub use early::good_campaigns_are_early;
-pub use row_values::{as_u16, as_u32, campaign_row_of, is_set};
+pub use row_values::{as_u16, as_u32, campaign_row_of, is_from, is_set};
+pub use unit_rows::unit_in_range;

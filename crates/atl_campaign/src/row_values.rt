@@ -1,6 +1,7 @@
-//! Reads single values of rows: numbers, flags, and the campaign row.
+//! Writes, reads and judges single values of rows: numbers, flags, and the campaign row.
 ghost use Rattle.std.specs.Prelude.{◌≡◌, length};
-ghost use Rattle.atl_campaign.specs.FromRows.{as_u32, as_u16, campaign_row_of, is_set};
+ghost use Rattle.atl_campaign.specs.FromRows.{campaign_row_of};
+ghost use Rattle.atl_rows.specs.RowValues.{as_u32, as_u16, flag, is_from, is_set};
 
 use atl_rows::parts::{Parts, StoredCampaignRow};
 
@@ -29,6 +30,19 @@ pub fn is_set(number: i64) -> bool
     ensures { result ≡ is_set number }
 {
     number != 0
+}
+
+pub(crate) fn flag(set: bool) -> i64
+    ensures { result ≡ flag set }
+{
+    if set { 1 } else { 0 }
+}
+
+/// Whether a number of a row is from `low` to `high`.
+pub fn is_from(low: u32, high: u32, number: i64) -> bool
+    ensures { result ≡ is_from low high number }
+{
+    i64::from(low) <= number && number <= i64::from(high)
 }
 
 /// The campaign row of parts that have exactly one.

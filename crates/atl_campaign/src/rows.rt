@@ -8,10 +8,12 @@ ghost use Rattle.std.specs.List.{flat_map};
 ghost use Rattle.atl_world.specs.declared.format.Format.TheVariants.{First, Second};
 ghost use Rattle.atl_records.specs.Limits.{possible_things};
 ghost use Rattle.atl_records.specs.Grids.{accounts_under};
-ghost use Rattle.atl_campaign.specs.Rows.{flag, rows_by, campaign_row, faction_row, region_row, unit_row, structure_row, mail_row, report_row, has_row, books_row, market_row, rows_of_sort, held_rows, has_rows, stock_rows, market_rows, rows_under, books_rows, rows_of};
+ghost use Rattle.atl_campaign.specs.Rows.{rows_by, campaign_row, faction_row, region_row, unit_row, structure_row, mail_row, report_row, has_row, books_row, market_row, rows_of_sort, held_rows, has_rows, stock_rows, market_rows, rows_under, books_rows, rows_of};
 
 use crate::campaign::Campaign;
-use atl_records::{Books, BooksEntry, Faction, Holding, Structure, Thing, Unit};
+use crate::row_values::flag;
+use crate::unit_rows::unit_row;
+use atl_records::{Books, BooksEntry, Faction, Holding, Structure, Thing};
 use atl_rows::parts::{
     Parts, StoredBooks, StoredCampaignRow, StoredFaction, StoredHas, StoredMail, StoredMarket,
     StoredRegion, StoredReport, StoredStructure, StoredUnit,
@@ -27,16 +29,10 @@ pub(crate) const SKILL_SORT: u32 = 1;
 
 const CAMPAIGN_ID: i64 = 1;
 
-fn bytes_of(alloc: Global, text: &Text) -> Result<Sequence<u8>, AllocError>
+pub(crate) fn bytes_of(alloc: Global, text: &Text) -> Result<Sequence<u8>, AllocError>
     ensures { IfOk result (λ bytes. bytes ≡ text.now) }
 {
     Sequence::from_slice(alloc, text.as_bytes())
-}
-
-fn flag(set: bool) -> i64
-    ensures { result ≡ flag set }
-{
-    if set { 1 } else { 0 }
 }
 
 /// The row lacks the world text, which no campaign knows.
@@ -71,22 +67,6 @@ fn faction_row(alloc: Global, number: u32, faction: &Faction) -> Result<StoredFa
         name,
         pass,
         gone: flag(faction.gone),
-    })
-}
-
-fn unit_row(alloc: Global, number: u32, unit: &Unit) -> Result<StoredUnit, AllocError>
-    ensures { IfOk result (λ row. row ≡ unit_row number unit.now) }
-{
-    let name = bytes_of(alloc, unit.holding.name())?;
-    Ok(StoredUnit {
-        number: i64::from(number),
-        faction: i64::from(unit.faction),
-        name,
-        region: i64::from(unit.region),
-        structure: i64::from(unit.structure),
-        men: i64::from(unit.holding.men()),
-        money: i64::from(unit.holding.money()),
-        guard: flag(unit.holding.guard()),
     })
 }
 

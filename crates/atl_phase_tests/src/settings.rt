@@ -10,6 +10,7 @@ use atl_campaign::parts::{
 };
 use atl_campaign::{Campaign, founded};
 use atl_state::check_as;
+use atl_test_worlds::rows::plain_unit;
 use atl_world::{Format, Numbered, Sequence, Text, World, let_go};
 use std::alloc::{AllocError, Global};
 
@@ -158,16 +159,14 @@ fn reports(alloc: Global) -> Result<Sequence<StoredReport>, AllocError> {
 }
 
 fn unit(alloc: Global, number: i64, stood: &UnitSetting) -> Result<StoredUnit, AllocError> {
-    Ok(StoredUnit {
-        number,
-        faction: stood.faction,
-        name: Sequence::from_slice(alloc, b"A unit")?,
-        region: stood.region,
-        structure: stood.structure,
-        men: stood.men,
-        money: stood.money,
-        guard: i64::from(stood.guard),
-    })
+    let mut row = plain_unit(alloc, number, b"A unit")?;
+    row.faction = stood.faction;
+    row.region = stood.region;
+    row.structure = stood.structure;
+    row.men = stood.men;
+    row.money = stood.money;
+    row.guard = i64::from(stood.guard);
+    Ok(row)
 }
 
 fn units_of(alloc: Global, units: &[UnitSetting]) -> Result<Sequence<StoredUnit>, AllocError> {

@@ -94,7 +94,7 @@ pub struct StoredRegion {
 
 /// A row of the table `unit`: a unit's number, faction, name, region, structure, men, money and
 /// guard flag. Its items and days of study are rows of the table `has`.
-#[derive(Debug)]
+#[derive(Debug, Drop)]
 pub struct StoredUnit {
     /// The unit's number, from 1 to LAST_UNIT.
     pub number: i64,
@@ -110,12 +110,6 @@ pub struct StoredUnit {
     pub money: i64,
     /// 1 where the guard flag is set, else 0.
     pub guard: i64,
-}
-
-impl Drop for StoredUnit {
-    fn drop(self) {
-        let_go!(self: StoredUnit { number, faction, name, region, structure, men, money, guard });
-    }
 }
 
 /// A row of the table `structure`: a structure's number, kind, name, region, owner, and how much of

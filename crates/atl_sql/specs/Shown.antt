@@ -1,7 +1,7 @@
 -- The rows of each table as SQL shows them, and the forms of the columns. See docs/FORMATS.md, "Tables".
 -- Items and skills are given by their indexes in the world, and entries and things of the books by their numbers.
 -- `mail`, `has` and the like are tables. The table `has` has items and days of study of units.
-use Rattle.std.specs.Prelude.{ℕ, ℤ, pos, List, [], ◌∷◌, ◌++◌}
+use Rattle.std.specs.Prelude.{ℕ, ℤ, pos, List, [], ◌∷◌, ◌++◌, map}
 use Rattle.sqlite.specs.declared.types.Value.{Value}
 use Rattle.sqlite.specs.declared.types.Value.TheVariants.{Int, Text, Blob}
 use Rattle.sqlite.specs.Order.{Row}
@@ -20,6 +20,9 @@ use Rattle.atl_rows.specs.declared.parts.StoredBooks.{StoredBooks}
 use Rattle.atl_rows.specs.declared.parts.StoredMarket.{StoredMarket}
 use Rattle.atl_descriptions.specs.declared.records.campaign.StoredCampaign.{StoredCampaign}
 use Rattle.atl_sql.specs.declared.rows.stored.RowWithId.{RowWithId}
+use Rattle.atl_rows.specs.RowColumns as contents
+use Rattle.atl_rows.specs.RowColumns.{Content, Whole, Reference, Flag, Field, Fields}
+use Rattle.atl_rows.specs.UnitColumns.{unit_columns, unit_fields}
 use Rattle.atl_columns.specs.Forms.{Form, Number, Utf8Text, TextBytes, Bytes}
 
 -- the SQL integer of a natural number
@@ -87,6 +90,25 @@ market_row region item stock = int region ∷ int item ∷ int stock ∷ []
 
 -- ---- rows that are read
 
+-- the form in which a column is read: a text as bytes, all else as numbers
+abbrev pub form_of : Content → Form
+form_of (Whole low high) = Number
+form_of Reference = Number
+form_of Flag = Number
+form_of contents.Text = TextBytes
+
+-- a field of a row that was read, as SQL shows it
+abbrev pub shown_field : (c : Content) → Field c → Value
+shown_field (Whole low high) z = Int z
+shown_field Reference z = Int z
+shown_field Flag z = Int z
+shown_field contents.Text t = Text t
+
+-- the fields of a row that was read, as SQL shows them
+abbrev pub shown_fields : (cs : List Content) → Fields cs → Row
+shown_fields [] r = []
+shown_fields (c ∷ cs) r = shown_field c r.0 ∷ shown_fields cs r.1
+
 -- the campaign row that was read, as SQL shows it, without its world text
 abbrev pub campaign_row_stored : StoredCampaignRow → Row
 campaign_row_stored s =
@@ -122,12 +144,11 @@ region_forms = Number ∷ Number ∷ Number ∷ []
 
 -- a row of `unit` that was read, as SQL shows it
 abbrev pub unit_stored : StoredUnit → Row
-unit_stored s =
-    Int s.number ∷ Int s.faction ∷ Text s.name ∷ Int s.region ∷ Int s.structure ∷ Int s.men ∷ Int s.money ∷ Int s.guard ∷ []
+unit_stored s = shown_fields unit_columns (unit_fields s)
 
--- the forms in which the columns of `unit` are read: numbers, and the name as bytes
+-- the forms in which the columns of `unit` are read
 abbrev pub unit_forms : List Form
-unit_forms = Number ∷ Number ∷ TextBytes ∷ Number ∷ Number ∷ Number ∷ Number ∷ Number ∷ []
+unit_forms = map form_of unit_columns
 
 -- a row of `structure` that was read, as SQL shows it
 abbrev pub structure_stored : StoredStructure → Row

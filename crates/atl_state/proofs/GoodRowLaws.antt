@@ -34,6 +34,9 @@ use Rattle.atl_campaign.specs.RowRules.{one_key, market_key, HaveDistinctKeys}
 use Rattle.atl_campaign.specs.Rows.{flag, rows_by, campaign_row, faction_row, region_row, unit_row, structure_row, mail_row, report_row, has_rows, books_rows, market_row, market_rows, rows_of, AreRowsOf}
 use Rattle.atl_campaign.specs.Campaign.{CampaignValue}
 use Rattle.atl_campaign.proofs.AssemblyLaws.{min_small}
+use Rattle.atl_campaign.proofs.ColumnLaws.{AreFrom, Refer, flag_back, values_back}
+use Rattle.atl_rows.specs.UnitColumns.{unit_columns}
+use Rattle.atl_campaign.specs.UnitRows.{unit_values, unit_of_values}
 use Rattle.atl_campaign.proofs.ReadBackLaws.{each_permuted, written_is_read, written_fits_u32, map_back, rows_so, rows_apart, entries_rise, keys_permuted, apart_numbers}
 use Rattle.atl_state.proofs.BackBooksLaws.{books_back}
 use Rattle.atl_state.proofs.BackHasLaws.{AreHad, goods_of, goods_back}
@@ -62,10 +65,6 @@ small_enough : {V : Type 0} (m : FinMap nat_cmp V) (most : ℕ) → most ≤ mos
 small_enough m most few every n v there = let here = every n v there in omega (arith, few, here)
 
 -- ---- one row
-
-flag_back : (b : Bool) → is_set (flag b) ≡ b
-flag_back true = refl
-flag_back false = refl
 
 pub read16 : (n : ℕ) → n ≤ most_u16 → as_u16 (pos n) ≡ n
 read16 n h = min_small n most_u16 h
@@ -99,26 +98,16 @@ structure_back n s h =
     let owner = written_is_read s.owner h.owner in
     λ i. record { kind = kind i; name = s.name; region = region i; done = done i; owner = owner i }
 
--- a unit's faction, region, structure, men and money fit 32 bits
-pub record UnitFits (u : Unit) : Type 0 where
-  pub faction : u.faction ≤ most_u32
-  pub region : u.region ≤ most_u32
-  pub structure : u.structure ≤ most_u32
-  pub men : u.holding.men ≤ most_u32
-  pub money : u.holding.money ≤ most_u32
-
-unit_back : (has : List StoredHas) (n : ℕ) (u : Unit) → n ≤ most_u32 → UnitFits u → things_had n 0 has ≡ u.holding.items
-    → things_had n 1 has ≡ u.holding.days → unit_of has (unit_row n u) ≡ u
-unit_back has n u few h items days =
-    let faction = written_is_read u.faction h.faction in
-    let region = written_is_read u.region h.region in
-    let structure = written_is_read u.structure h.structure in
-    let men = written_is_read u.holding.men h.men in
-    let money = written_is_read u.holding.money h.money in
-    let guard = flag_back u.holding.guard in
+-- a unit is read back from its row, if the numbers of the row are in their ranges, its references are below most_u32,
+-- and the unit's items and days of study are those that rows of `has` give it
+unit_back : (has : List StoredHas) (n : ℕ) (u : Unit) → n ≤ most_u32 → AreFrom unit_columns (unit_values n u)
+    → Refer unit_columns (unit_values n u) → things_had n 0 has ≡ u.holding.items → things_had n 1 has ≡ u.holding.days
+    → unit_of has (unit_row n u) ≡ u
+unit_back has n u few from refers items days =
+    let values = values_back unit_columns refl (unit_values n u) from refers in
     let its_items = ap (λ k. things_had k 0 has) (written_is_read n few) ∙ items in
     let its_days = ap (λ k. things_had k 1 has) (written_is_read n few) ∙ days in
-    λ i. record { faction = faction i; region = region i; structure = structure i; holding = record { name = u.holding.name; men = men i; money = money i; guard = guard i; items = its_items i; days = its_days i } }
+    λ i. unit_of_values (values i) (its_items i) (its_days i)
 
 -- ---- a table with a key of one number
 
@@ -165,11 +154,6 @@ none_listed [] h = refl
 none_listed (r ∷ rows) h = let count = length_permutation [] (r ∷ rows) h in absurd (omega (arith, count))
 
 -- ---- what is so of a good campaign's numbers
-
-unit_small_enough : (u : Unit) → u.faction ≤ last_faction → u.region ≤ last_region → u.structure ≤ most_structures
-    → u.holding.men ≤ men_limit → u.holding.money ≤ holding_limit → UnitFits u
-unit_small_enough u f r s m y =
-    record { faction = omega (arith, f); region = omega (arith, r); structure = omega (arith, s); men = omega (arith, m); money = omega (arith, y) }
 
 structure_small_enough : (w : WorldValue) → IsWorld w → (s : Structure) → s.kind < length w.kinds
     → s.region ≤ last_region → s.done ≤ size_of w s.kind → s.owner ≤ last_unit → StructureFits s
@@ -222,16 +206,19 @@ module _ (w : WorldValue) (world : IsWorld w) (c : CampaignValue) (good : IsGood
   pub structure_small : (n : ℕ) → HasValue c.structures n → n ≤ most_structures
   structure_small n there = (few_structures n there.0 there.1).1
 
-  unit_fits : Every (λ n u. UnitFits u) c.units
-  unit_fits n u is =
+  -- in a good campaign the numbers of a unit's row are in their ranges
+  pub units_from : Every (λ n u. AreFrom unit_columns (unit_values n u)) c.units
+  units_from n u is =
+      let range = good.sound.steady.numbers.units n u is in
+      (range.0, few_units n u is, (good.sound.men n u is, range.1.men, (omega arith, range.1.money, tt)))
+
+  units_refer : Every (λ n u. Refer unit_columns (unit_values n u)) c.units
+  units_refer n u is =
       let placed = good.sound.steady.known.units n u is in
-      let holding = (good.sound.steady.numbers.units n u is).1 in
       let faction : u.faction ≤ last_faction = faction_small u.faction placed.faction in
       let region : u.region ≤ last_region = region_small u.region placed.region in
       let structure : u.structure ≤ most_structures = none_or_below c.structures u.structure most_structures (λ k s there. (few_structures k s there).1) (λ apart. let there = placed.structure apart in (there.0, there.1)) in
-      let men : u.holding.men ≤ men_limit = holding.men in
-      let money : u.holding.money ≤ holding_limit = holding.money in
-      unit_small_enough u faction region structure men money
+      (omega (arith, faction), (omega (arith, region), (omega (arith, structure), tt)))
 
   -- in a good campaign each structure's kind fits 16 bits, and region, owner and how much is done 32 (StructureFits)
   pub structure_fits : Every (λ n s. StructureFits s) c.structures
@@ -394,7 +381,7 @@ module _ (w : WorldValue) (world : IsWorld w) (c : CampaignValue) (good : IsGood
     units_said : by_number (λ r. as_u32 r.number) (unit_of p.has) p.units ≡ c.units
     units_said =
         table_back unit_row (λ r. r.number) (unit_of p.has) (λ n u. refl) c.units had.numbers p.units units_listed (λ n u is.
-        unit_back p.has n u (had.numbers n u is) (unit_fits n u is) (goods_back c.units had p.has has_listed n u is 0 (omega arith)) (goods_back c.units had p.has has_listed n u is 1 (omega arith)))
+        unit_back p.has n u (had.numbers n u is) (units_from n u is) (units_refer n u is) (goods_back c.units had p.has has_listed n u is 0 (omega arith)) (goods_back c.units had p.has has_listed n u is 1 (omega arith)))
 
     -- the world has at most 4,294,967,294 things, so each thing's number fits 32 bits
     pub few_things : thing_count w ≤ 4294967294

@@ -47,6 +47,9 @@ use Rattle.atl_records.specs.declared.books.BooksEntry.{BooksEntry}
 use Rattle.atl_records.specs.declared.books.Thing.{Thing}
 use Rattle.atl_records.proofs.BookLaws.{nonzero_fails_is_zero}
 use Rattle.atl_records.proofs.EveryEntryLaws.{entry_small}
+use Rattle.atl_campaign.proofs.ColumnLaws.{flag_in_range, from_true, written_in_range}
+use Rattle.atl_rows.specs.UnitColumns.{unit_columns}
+use Rattle.atl_campaign.specs.UnitRows.{unit_values}
 use Rattle.atl_campaign.proofs.ReadBackLaws.{each_permuted, all_pass, written_is_read, rows_pass, count_rows}
 use Rattle.atl_state.proofs.BackBooksLaws.{listed_amount_is_amount_in, lines_each, books_keys}
 use Rattle.atl_state.proofs.BackHasLaws.{has_each, has_keys, goods_of}
@@ -56,18 +59,11 @@ use Rattle.atl_world.proofs.KeyLaws.{IsDistinct-map}
 
 -- ---- tests that pass
 
-from_true : (low high n : ℕ) → low ≤ n → n ≤ high → is_from low high (pos n) ≡ true
-from_true low high n l h = let least : nat_le low n ≡ true = grind (arith, nat_tests) in let most : nat_le n high ≡ true = grind (arith, nat_tests) in ap (λ b. b && nat_le n high) least ∙ most
-
 and_true : (a b : Bool) → a ≡ true → b ≡ true → (a && b) ≡ true
 and_true a b h k = ap (λ x. x && b) h ∙ k
 
 le_true : (m n : ℕ) → m ≤ n → nat_le m n ≡ true
 le_true m n h = grind (arith, nat_tests)
-
-flag_in_range : (b : Bool) → is_from 0 1 (flag b) ≡ true
-flag_in_range true = refl
-flag_in_range false = refl
 
 within_true : (bound : ℕ) (z : ℤ) → IsWithin bound z → is_within bound z ≡ true
 within_true bound (pos n) h = let most : n ≤ bound = omega (arith, ints, h.most) in le_true n bound most
@@ -171,9 +167,7 @@ module _ (f : Format) (w : WorldValue) (world : IsWorld w) (c : CampaignValue) (
   unit_ranges : list_all unit_in_range p.units ≡ true
   unit_ranges =
       rows_pass unit_row unit_in_range c.units p.units (row.units_listed w world c good f fits p rows) (λ n u is.
-      let range = good.sound.steady.numbers.units n u is in
-      and_true _ _ (and_true _ _ (and_true _ _ (from_true 1 last_unit n range.0 (row.few_units w world c good n u is)) (from_true 1 men_limit u.holding.men (good.sound.men n u is) range.1.men))
-      (from_true 0 holding_limit u.holding.money (none_less u.holding.money) range.1.money)) (flag_in_range u.holding.guard))
+      written_in_range unit_columns (unit_values n u) (row.units_from w world c good n u is))
 
   has_ranges : list_all has_in_range p.has ≡ true
   has_ranges =

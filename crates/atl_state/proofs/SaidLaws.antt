@@ -42,9 +42,11 @@ use Rattle.atl_campaign.specs.RowRules.{one_key, is_from, is_one_campaign_row, a
 use Rattle.atl_campaign.specs.Rows.{flag, is_zero, rows_by, faction_row, region_row, unit_row, structure_row, mail_row, report_row, has_rows, books_rows, market_rows, AreRowsOf, rows_of}
 use Rattle.atl_campaign.specs.Stocks.{stock_limit}
 use Rattle.atl_campaign.proofs.AssemblyLaws.{from_range}
+use Rattle.atl_campaign.proofs.ColumnLaws.{fields_back, flag_whole, whole_below}
+use Rattle.atl_rows.specs.UnitColumns.{unit_columns, unit_fields, unit_of_fields}
 use Rattle.atl_records.proofs.BookLaws.{failing_is_nonzero}
 use Rattle.atl_state.proofs.BooksRowLaws.{IsBooked, booked_row, assembled_books_have_rows}
-use Rattle.atl_campaign.proofs.FromRowLaws.{in_range, from_le, by_number-every, unit_ranges, number_ranges, head_ranges, NumberRanges}
+use Rattle.atl_campaign.proofs.FromRowLaws.{in_range, from_le, by_number-every, unit_numbers, number_ranges, head_ranges, NumberRanges}
 use Rattle.atl_campaign.proofs.GroupLaws.{unkept}
 use Rattle.atl_campaign.proofs.HasLaws.{FitsU32, KeyFitsU32, IsExactGoods, IsOfUnits, is_same_key, ties_itself, things_apart, has_rows_are_rewritten}
 use Rattle.atl_campaign.proofs.MarketLaws.{market_known}
@@ -57,20 +59,9 @@ use Rattle.atl_world.proofs.GeneralLaws.{each_follows_from_two, each_follows}
 min_less : (n m : ℕ) → min n m < m → min n m ≡ n
 min_less n m h = grind arith
 
--- if reading a row's number gives less than most_u32, the number fits 32 bits and is read as it is (FitsU32)
-pub whole_below : (z : ℤ) → as_u32 z < most_u32 → FitsU32 z
-whole_below (pos n) h = ap pos (sym (min_less n most_u32 h))
-whole_below (negsuc n) h = absurd (omega arith)
-
 whole16 : (z : ℤ) → as_u16 z < most_u16 → z ≡ pos (as_u16 z)
 whole16 (pos n) h = ap pos (sym (min_less n most_u16 h))
 whole16 (negsuc n) h = absurd (omega arith)
-
-flag_whole : (z : ℤ) → is_from 0 1 z ≡ true → flag (is_set z) ≡ z
-flag_whole (pos zero) h = refl
-flag_whole (pos (suc zero)) h = refl
-flag_whole (pos (suc (suc n))) h = let most = from_le (suc (suc n)) 1 (and_parts (nat_le 0 (suc (suc n))) (nat_le (suc (suc n)) 1) h).1 in absurd (omega arith)
-flag_whole (negsuc n) h = absurd (false≢true h)
 
 -- two numbers that fit 32 bits, and are different keys, are read as different numbers
 pub one_apart : (x y : ℤ) → FitsU32 x → FitsU32 y → is_same_key (one_key x) (one_key y) ≡ false → as_u32 y ≢ as_u32 x
@@ -267,7 +258,7 @@ module _ (f : Format) (w : WorldValue) (p : Parts) (k : RowsKeep f w p) where
 
   -- ---- units and structures: their numbers
   unit_number : (r : StoredUnit) → unit_in_range r ≡ true → (FitsU32 r.number) × (as_u32 r.number ≤ last_unit)
-  unit_number r h = let range = from_range 1 last_unit r.number (omega arith) (unit_ranges r h).number in (range.0, range.2)
+  unit_number r h = let most = (unit_numbers r h).1 in (whole_below r.number (omega (arith, most)), most)
 
   units_apart : HaveDistinctNumbers (λ r. as_u32 r.number) p.units
   units_apart =
@@ -300,17 +291,10 @@ module _ (f : Format) (w : WorldValue) (p : Parts) (k : RowsKeep f w p) where
       → unit_row (as_u32 r.number) (unit_of p.has r) ≡ r
   unfolding campaign_of
   same_unit r h placed =
-      let parts = unit_ranges r h in
       let faction_few = there_below (by_number (λ r. as_u32 r.number) faction_of p.factions) (as_u32 r.faction) last_faction few_factions placed.faction in
       let region_few = few_regions (as_u32 r.region) placed.region in
       let structure_few = none_or_below (by_number (λ r. as_u32 r.number) structure_of p.structures) (as_u32 r.structure) most_structures few_structures (λ apart. let there = placed.structure apart in (there.0, there.1)) in
-      let faction = whole_below r.faction (omega arith) in
-      let region = whole_below r.region (omega arith) in
-      let structure = whole_below r.structure (omega arith) in
-      let men = (from_range 1 men_limit r.men (omega arith) parts.men).0 in
-      let money = (from_range 0 holding_limit r.money (omega arith) parts.money).0 in
-      let guard = flag_whole r.guard parts.guard in
-      λ i. record { number = sym (unit_number r h).0 i; faction = sym faction i; name = r.name; region = sym region i; structure = sym structure i; men = sym men i; money = sym money i; guard = guard i }
+      ap unit_of_fields (fields_back unit_columns refl true (unit_fields r) h (omega (arith, faction_few), (omega (arith, region_few), (omega (arith, structure_few), tt))))
 
   units_placed : AllByRecursion (λ r. IsPlaced w (campaign_of w p) (unit_of p.has r)) p.units
   unfolding campaign_of
@@ -409,7 +393,7 @@ module _ (f : Format) (w : WorldValue) (p : Parts) (k : RowsKeep f w p) where
   their_men : Every (λ n u. u.holding.men ≤ men_limit) units
   their_men =
       by_number-every (λ r. as_u32 r.number) (unit_of p.has) (λ n u. u.holding.men ≤ men_limit) unit_in_range
-      (λ r h. (in_range 1 men_limit most_u32 r.men (omega arith) (unit_ranges r h).men).1) p.units ranges.units
+      (λ r h. (unit_numbers r h).2.1) p.units ranges.units
 
   -- the item or skill of a row of `has` is among what all rows of `has` of this sort (0 items, 1 skills) give unit n
   abbrev ThingThere : ℕ → ℕ → StoredHas → Type 0

@@ -2,7 +2,7 @@
 -- `c` and `d` are the two campaigns, and `one` and `other` their world texts; `db` has the trees of the database. `m`
 -- is a map of one campaign, such as its units, or its books, and `k` the same of the other; `line` makes the row of a
 -- number and its value.
-use Rattle.std.proofs.Common.{◌≡◌, ◌≢◌, ◌+◌, ◌∙◌, ℕ, ℤ, zero, suc, pos, negsuc, Bool, true, false, List, Some, inl, inr, refl, sym, ap, arith}
+use Rattle.std.proofs.Common.{[], ◌∷◌, ◌≡◌, ◌≢◌, ◌+◌, ◌∙◌, ℕ, ℤ, zero, suc, pos, negsuc, Bool, true, false, List, Some, inl, inr, refl, sym, ap, arith}
 use Rattle.std.specs.Prelude.{◌⊎◌}
 use Rattle.std.specs.Ordering.{nat_cmp}
 use Rattle.std.specs.FinMap.{FinMap, get}
@@ -33,6 +33,11 @@ use Rattle.atl_sql.specs.Shown.{mail_row, report_row, has_row, books_row, market
 use Rattle.atl_sql.specs.Written.{sort_number}
 use Rattle.atl_sql.specs.declared.rows.has.ThingKind.{ThingKind}
 use Rattle.atl_sql.specs.declared.rows.has.ThingKind.TheVariants.{Item, Skill}
+use Rattle.atl_rows.specs.RowColumns as contents
+use Rattle.atl_rows.specs.RowColumns.{Content, Whole, Reference, Flag, Values, written_row}
+use Rattle.atl_rows.specs.UnitColumns.{unit_columns}
+use Rattle.atl_campaign.specs.UnitRows.{unit_values, unit_of_values}
+use Rattle.atl_sql.specs.Shown.{shown_fields}
 use Rattle.atl_campaign.proofs.StateLaws.{same_state}
 use Rattle.atl_writing.proofs.ThingLaws.{same_sort}
 
@@ -67,6 +72,27 @@ flag_determines_boolean true true is = refl
 flag_determines_boolean true false is = cc
 flag_determines_boolean false true is = cc
 flag_determines_boolean false false is = refl
+
+-- values are equal if they are written as fields that SQL shows alike
+values_shown : (cs : List Content) (v u : Values cs)
+    → shown_fields cs (written_row cs v) ≡ shown_fields cs (written_row cs u) → v ≡ u
+values_shown [] v u same = refl
+values_shown (Whole low high ∷ cs) v u same =
+    let one : v.0 ≡ u.0 = cc in
+    let others = values_shown cs v.1 u.1 (cc) in
+    λ i. (one i, others i)
+values_shown (Reference ∷ cs) v u same =
+    let one : v.0 ≡ u.0 = cc in
+    let others = values_shown cs v.1 u.1 (cc) in
+    λ i. (one i, others i)
+values_shown (Flag ∷ cs) v u same =
+    let one = flag_determines_boolean v.0 u.0 (cc) in
+    let others = values_shown cs v.1 u.1 (cc) in
+    λ i. (one i, others i)
+values_shown (contents.Text ∷ cs) v u same =
+    let one : v.0 ≡ u.0 = cc in
+    let others = values_shown cs v.1 u.1 (cc) in
+    λ i. (one i, others i)
 
 faction_rows_determine : (m k : FinMap nat_cmp Faction) → Every (λ n f. f.number ≡ n) m → Every (λ n f. f.number ≡ n) k
     → Determines row_of_faction m k
@@ -122,24 +148,12 @@ module _ (rows goods : List Row) (m k : FinMap nat_cmp Unit) (a : HasExactly row
   units_there : Every (λ n u. get k n ≡ Some u) m
   units_there n u is =
       let (p, v, there, same) = other_line row_of_unit rows m k a b n u is in
-      let at : n ≡ p = cc in
-      let here : get k n ≡ Some v = ap (get k) at ∙ there in
-      let faction : u.faction ≡ v.faction = cc in
-      let region : u.region ≡ v.region = cc in
-      let structure : u.structure ≡ v.structure = cc in
-      let name : u.holding.name ≡ v.holding.name = cc in
-      let men : u.holding.men ≡ v.holding.men = cc in
-      let money : u.holding.money ≡ v.holding.money = cc in
-      let guard : u.holding.guard ≡ v.holding.guard = flag_determines_boolean u.holding.guard v.holding.guard (cc) in
+      let values = values_shown unit_columns (unit_values n u) (unit_values p v) same in
+      let here : get k n ≡ Some v = ap (λ x. get k x.0) values ∙ there in
       let things : (sort : ThingKind) → things_of sort u.holding ≡ things_of sort v.holding = λ sort. equal_by_values _ _ (things_there goods m k h j some n u v is here sort) (things_there goods k m j h more n v u here is sort) in
       let items : u.holding.items ≡ v.holding.items = things Item in
       let days : u.holding.days ≡ v.holding.days = things Skill in
-      let unit : u ≡ v = λ i. record {
-        faction = faction i;
-        region = region i;
-        structure = structure i;
-        holding = record { name = name i; men = men i; money = money i; guard = guard i; items = items i; days = days i };
-      } in
+      let unit : u ≡ v = λ i. unit_of_values (values i) (items i) (days i) in
       here ∙ sym (ap Some unit)
 
 -- ---- regions, with what is in stock

@@ -1,9 +1,10 @@
-//! World texts that several crates of tests share, and the rows and mailings of a month on the
-//! island (`month`). The small world has one region; the island has three regions of land and one
+//! World texts that several crates of tests share, the rows and mailings of a month on the island
+//! (`month`), and rows to begin with (`rows`). The small world has one region; the island has three regions of land and one
 //! of sea.
 #![tactic(auto)]
 
 pub mod month;
+pub mod rows;
 
 /// Makes the text of a world with one region from these literals: the money of a faction that
 /// joins, the region's work places and peasants, and text to append.

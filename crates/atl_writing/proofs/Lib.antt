@@ -13,5 +13,4 @@ pub mod FillLaws
 pub mod KeptLaws
 pub mod ArriveLaws
 pub mod TurnLaws
-pub mod FlagLaws
 pub mod UpgradeLaws

@@ -22,7 +22,7 @@ pub(super) fn name_of(alloc: Global, bytes: &Sequence<u8>) -> Result<Text, Alloc
 }
 
 /// Without a copy of the bytes.
-pub(super) fn moved_name(bytes: Sequence<u8>) -> Text
+pub(crate) fn moved_name(bytes: Sequence<u8>) -> Text
     requires { name_ok bytes ≡ true }
     ensures { result ≡ bytes }
 {

@@ -1,5 +1,4 @@
-//! Builds the units from their rows, and the lists of units. A number that doesn't fit 32 bits is
-//! read as the largest, and of rows with one number the last counts. Names are moved, not copied.
+//! Builds the units from their rows, and the lists of units. Of rows with one number the last counts.
 //! `has` are rows of the table `has`: items and days of study. The rows of units and of `has` have
 //! to be in their ranges, and the names of units to keep their rule. Where memory runs out, the
 //! answer is AllocError.
@@ -13,34 +12,15 @@ ghost use Rattle.atl_campaign.specs.Roster.{unmarked_units};
 ghost use Rattle.atl_campaign.specs.RowRules.{unit_in_range, has_in_range};
 
 use super::goods::put_things;
-use super::records::moved_name;
-use crate::row_values::{as_u32, is_set};
+use crate::row_values::as_u32;
+use crate::unit_rows::bare_unit;
 use crate::units::Units;
 use atl_containers::Arena;
 use atl_lists::{UnitLists, list_keys_of};
-use atl_records::{Holding, Unit};
+use atl_records::Unit;
 use atl_rows::parts::{StoredHas, StoredUnit};
-use atl_world::{Numbered, Sequence};
+use atl_world::Sequence;
 use std::alloc::{AllocError, Global};
-use std::mem;
-
-fn bare_unit(alloc: Global, mut row: StoredUnit) -> Unit
-    requires named { name_ok row.name ≡ true }
-    requires range { unit_in_range row ≡ true }
-    ensures { result ≡ bare_unit row }
-{
-    let name = moved_name(mem::replace(&mut row.name, Sequence::new(alloc)));
-    let items = Numbered::new(alloc);
-    let days = Numbered::new(alloc);
-    let mut holding = Holding::new(name, as_u32(row.men), as_u32(row.money), items, days);
-    holding.set_guard(is_set(row.guard));
-    Unit {
-        faction: as_u32(row.faction),
-        region: as_u32(row.region),
-        structure: as_u32(row.structure),
-        holding,
-    }
-}
 
 fn bare_units(alloc: Global, rows: Sequence<StoredUnit>) -> Result<Arena<Unit>, AllocError>
     requires named { list_all (λ r. name_ok r.name) rows ≡ true }

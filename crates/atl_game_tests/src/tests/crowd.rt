@@ -14,6 +14,7 @@ use atl_campaign::{Campaign, founded};
 use atl_phase::Month;
 use atl_state::check;
 use atl_tables::read_world;
+use atl_test_worlds::rows::plain_unit;
 use atl_world::{Sequence, Text, World};
 use std::alloc::{AllocError, Global};
 use std::test::Fail;
@@ -309,16 +310,13 @@ fn money_of(number: u32) -> i64 {
 }
 
 fn unit(alloc: Global, number: u32) -> Result<StoredUnit, AllocError> {
-    Ok(StoredUnit {
-        number: i64::from(number),
-        faction: i64::from(faction_of(number)),
-        name: Sequence::from_slice(alloc, b"A unit")?,
-        region: i64::from(region_of(number)),
-        structure: 0,
-        men: picked(&MEN, number),
-        money: money_of(number),
-        guard: i64::from(guards(number)),
-    })
+    let mut row = plain_unit(alloc, i64::from(number), b"A unit")?;
+    row.faction = i64::from(faction_of(number));
+    row.region = i64::from(region_of(number));
+    row.men = picked(&MEN, number);
+    row.money = money_of(number);
+    row.guard = i64::from(guards(number));
+    Ok(row)
 }
 
 fn units(alloc: Global) -> Result<Sequence<StoredUnit>, AllocError> {

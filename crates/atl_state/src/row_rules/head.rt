@@ -2,7 +2,7 @@
 ghost use Rattle.std.specs.Prelude.{◌≡◌};
 ghost use Rattle.atl_campaign.specs.RowRules.{is_one_campaign_row, are_of_format};
 
-use super::numbers::is_from;
+use atl_campaign::is_from;
 use atl_campaign::parts::{Parts, StoredCampaignRow, StoredMarket};
 use atl_world::Format;
 

@@ -1,12 +1,6 @@
-//! Comparisons of a row's number with the bounds of its range.
+//! The comparison of an amount of the books with its bound.
 ghost use Rattle.std.specs.Prelude.{◌≡◌};
-ghost use Rattle.atl_campaign.specs.RowRules.{is_from, is_within};
-
-pub(super) fn is_from(low: u32, high: u32, number: i64) -> bool
-    ensures { result ≡ is_from low high number }
-{
-    i64::from(low) <= number && number <= i64::from(high)
-}
+ghost use Rattle.atl_campaign.specs.RowRules.{is_within};
 
 pub(super) fn is_within(bound: u128, number: i64) -> bool
     ensures { result ≡ is_within bound number }

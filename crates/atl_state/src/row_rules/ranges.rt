@@ -6,14 +6,14 @@ ghost use Rattle.atl_campaign.specs.RowRules.{campaign_row_in_range, faction_in_
 
 use super::keys::tables_have_distinct_keys;
 use super::markets::market_of;
-use super::numbers::{is_from, is_within};
+use super::numbers::is_within;
 use atl_campaign::parts::{
     Parts, StoredBooks, StoredCampaignRow, StoredFaction, StoredHas, StoredMarket, StoredRegion,
     StoredStructure, StoredUnit,
 };
-use atl_campaign::{as_u16, as_u32, campaign_row_of, is_set};
+use atl_campaign::{as_u16, as_u32, campaign_row_of, is_from, is_set, unit_in_range};
 use atl_records::{
-    HOLDING_LIMIT, LAST_MONTH, LAST_UNIT, MEN_LIMIT, MOST_IN_JOINING, MOST_IN_MONTH,
+    HOLDING_LIMIT, LAST_MONTH, LAST_UNIT, MOST_IN_JOINING, MOST_IN_MONTH,
     MOST_STRUCTURES, MOST_UNITS,
 };
 use atl_words::LAST_FACTION;
@@ -40,15 +40,6 @@ fn region_in_range(row: &StoredRegion) -> bool
     ensures { result ≡ region_in_range row.now }
 {
     is_from(0, MOST_AMOUNT, row.peasants) && is_from(0, MOST_AMOUNT, row.money)
-}
-
-fn unit_in_range(row: &StoredUnit) -> bool
-    ensures { result ≡ unit_in_range row.now }
-{
-    is_from(1, LAST_UNIT, row.number)
-        && is_from(1, MEN_LIMIT, row.men)
-        && is_from(0, HOLDING_LIMIT, row.money)
-        && is_from(0, 1, row.guard)
 }
 
 /// Days of study (sort 1) have no range here: rule 6 judges them.

@@ -4,6 +4,7 @@ use atl_campaign::parts::{
     Parts, StoredBooks, StoredCampaignRow, StoredFaction, StoredHas, StoredMarket, StoredRegion,
     StoredReport, StoredStructure, StoredUnit,
 };
+use atl_test_worlds::rows::plain_unit;
 use atl_world::{Format, Sequence, Text};
 use std::alloc::Global;
 use std::test::Fail;
@@ -124,26 +125,17 @@ fn add_factions(
 
 /// The second comes first: tables may come in any order. Of unit 1's row tests vary `guard` alone.
 fn add_units(alloc: Global, units: &mut Sequence<StoredUnit>, rows: &Rows) -> Result<(), Fail> {
-    units.push(StoredUnit {
-        number: 2,
-        faction: rows.faction,
-        name: Sequence::from_slice(alloc, b"Unit 2")?,
-        region: rows.region,
-        structure: 0,
-        men: 1,
-        money: rows.money,
-        guard: rows.guard,
-    })?;
-    units.push(StoredUnit {
-        number: 1,
-        faction: 1,
-        name: Sequence::from_slice(alloc, b"Unit 1")?,
-        region: 3,
-        structure: 0,
-        men: 1,
-        money: 1000,
-        guard: rows.guard,
-    })?;
+    let mut second = plain_unit(alloc, 2, b"Unit 2")?;
+    second.faction = rows.faction;
+    second.region = rows.region;
+    second.money = rows.money;
+    second.guard = rows.guard;
+    units.push(second)?;
+    let mut first = plain_unit(alloc, 1, b"Unit 1")?;
+    first.region = 3;
+    first.money = 1000;
+    first.guard = rows.guard;
+    units.push(first)?;
     Ok(())
 }
 

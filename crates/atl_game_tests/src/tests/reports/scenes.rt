@@ -9,6 +9,7 @@ use atl_campaign::parts::{
 };
 use atl_campaign::{Campaign, founded};
 use atl_state::check_as;
+use atl_test_worlds::rows::plain_unit;
 use atl_world::{Format, Sequence, Text, World};
 use std::alloc::Global;
 use std::test::Fail;
@@ -147,16 +148,14 @@ fn reports(alloc: Global) -> Result<Sequence<StoredReport>, Fail> {
 
 fn unit(alloc: Global, number: i64, person: &SceneUnit) -> Result<StoredUnit, Fail> {
     let name = format!(in alloc; "Unit {number}")?;
-    Ok(StoredUnit {
-        number,
-        faction: person.faction,
-        name: Sequence::from_slice(alloc, name.as_bytes())?,
-        region: person.region,
-        structure: person.structure,
-        men: person.men,
-        money: person.money,
-        guard: person.guard,
-    })
+    let mut row = plain_unit(alloc, number, name.as_bytes())?;
+    row.faction = person.faction;
+    row.region = person.region;
+    row.structure = person.structure;
+    row.men = person.men;
+    row.money = person.money;
+    row.guard = person.guard;
+    Ok(row)
 }
 
 fn units(alloc: Global, people: &[SceneUnit]) -> Result<Sequence<StoredUnit>, Fail> {

@@ -1,8 +1,7 @@
-use Rattle.std.proofs.Common.{rules, sym}
+use Rattle.std.proofs.Common.{rules}
 use Rattle.atl_descriptions.specs.Tables.{unit_table}
 use Rattle.atl_sql.proofs.WrittenLaws.{written_as}
 use Rattle.atl_writing.specs.Rows.{row_of_unit}
-use Rattle.atl_writing.proofs.FlagLaws.{flag_stored}
 use Rattle.atl_writing.proofs.numbered_rows.unit.UnitNumberedRow.put.Goals as goal
 
 pub returns : goal.returns
@@ -10,5 +9,5 @@ returns g c =
     let u = c.args.self.now in
     let holding = record u.holding { name = c.as_str.result.now; men = c.men.result; money = c.money.result; guard = c.guard.result } in
     let put = written_as g.S.Store unit_table 1 _ (row_of_unit c.args.number (record u { holding = holding }))
-    (rw (sym (flag_stored c.guard.result)) (search rules)) c.put.ensures in
+    (search rules) c.put.ensures in
     rw (c.as_str.ensures, c.name.ensures, c.men.ensures.value, c.money.ensures.value, c.guard.ensures) at put

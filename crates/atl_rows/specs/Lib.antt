@@ -1,0 +1,3 @@
+pub mod RowValues
+pub mod RowColumns
+pub mod UnitColumns
