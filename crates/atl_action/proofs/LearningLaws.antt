@@ -75,7 +75,7 @@ each_learner_is_learning w c m [] among = tt
 each_learner_is_learning w c m (t ∷ ts) among =
     ((λ s says can. record { order = t; counts = among.0; for_unit = refl; says = says; can = can }), each_learner_is_learning w c m ts among.1)
 
--- in each month a unit is in `learners` exactly if it learns by an order of STUDY that counts (`LearnByOrders`)
+-- a unit in `learners` learns its skill by an order of STUDY that counts; each unit that learns by one is in `learners`
 pub units_learn_by_orders : UnitsLearnByOrders
 unfolding learners
 units_learn_by_orders w c m =

@@ -101,8 +101,8 @@ module _ (structure to : ℕ) where
   pub elsewhere_people : (m : FinMap nat_cmp Unit) (n : ℕ) → AreSamePeople m (elsewhere m n)
   elsewhere_people m n = people_changed put_elsewhere (put_elsewhere_same true) m n
 
-  -- if unit n is put elsewhere, but into the structure that it is inside, the same units are inside each structure as
-  -- before
+  -- if unit n (`v`) is put elsewhere, but into the structure that it is inside, the same units are inside each
+  -- structure (`q`) as before
   pub elsewhere_inside : (m : FinMap nat_cmp Unit) (n q : ℕ) (v : Unit) → get m n ≡ Some v → v.structure ≡ structure
       → numbers_inside q (elsewhere m n) ≡ numbers_inside q m
   elsewhere_inside m n q v is here =

@@ -148,7 +148,7 @@ carried_same : (v : Unit) → IsAtMostMoved v v
 carried_same v =
     record { faction = refl; structure = refl; region = λ none. refl; name = refl; guard = λ none. refl; no_flag = λ off. off; men = omega arith; money = omega arith; items = λ i. omega arith; days = λ s. omega arith }
 
--- `ship` is the number of the structure `x` that sails, and `to` that of the region it sails to
+-- `ship` is the number of `x`, a structure of the steady campaign `c` that sails, and `to` the region it sails to
 module _ (w : WorldValue) (c : CampaignValue) (ship to : ℕ) (steady : IsSteady w c) (x : Structure) (is : get c.structures ship ≡ Some x) where
   abbrev aboard_numbers : List ℕ
   aboard_numbers = numbers_inside ship c.units
@@ -437,13 +437,16 @@ module _ (w : WorldValue) (begun : CampaignValue) (number faction : ℕ) where
   abbrev s : ℕ
   s = structure_of_unit begun number
 
-  -- The campaign is steady, and each unit is inside the structure that it was inside as the phase began.
-  -- The structure that unit `number` is inside is as it was, and so are all units inside this structure.
+  -- Campaign `c` is as begun, after some orders of the phase.
   record IsAsBegun (c : CampaignValue) : Type 0 where
     pub steady : IsSteady w c
+    -- each unit is inside the structure that it was inside as the phase began
     pub places : (k : ℕ) → structure_of_unit c k ≡ structure_of_unit begun k
+    -- the structure that unit `number` is inside is as it was
     pub structure : get c.structures s ≡ get begun.structures s
+    -- all units inside this structure are as they were
     pub units : (k : ℕ) → structure_of_unit begun k ≡ s → get c.units k ≡ get begun.units k
+    -- the same units are inside this structure as before
     pub list : numbers_inside s c.units ≡ numbers_inside s begun.units
 
   -- `c` is the campaign after some orders of the phase

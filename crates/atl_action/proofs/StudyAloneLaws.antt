@@ -81,8 +81,7 @@ is_study : (verb : Verb) → is_studying verb ≡ true → verb ≡ verbs.Study
 is_study verbs.Study is = refl
 is_study verb is = cc
 
--- two orders of STUDY for one unit from one faction share a slot; so a contradiction follows where `share_slot` is
--- false
+-- two orders of STUDY for one unit from one faction share a slot
 both_own : (t o : Task) → share_slot t o ≡ false → Studies t → Studies o → t.unit ≡ o.unit → t.faction ≡ o.faction → ⊥
 both_own t o never t_studies o_studies unit faction =
     grind (rules, never, ap (λ j. j == o.unit) unit ∙ equal_itself o.unit, ap (λ j. j == o.faction) faction ∙ equal_itself o.faction, is_study t.order_value.verb t_studies, is_study o.order_value.verb o_studies)

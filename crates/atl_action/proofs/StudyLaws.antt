@@ -52,7 +52,7 @@ use Rattle.atl_teaching.specs.Teach.{TaughtMen}
 
 -- ---- a unit that pays, and reaches a number of days
 
--- Unit `n` is `u`, and has the money for `cost`. It pays that, and then has `days` days of skill `s`.
+-- Unit `n` of the steady campaign `c` is `u`. It pays `cost`, for which it has the money, and then has `days` of `s`.
 module _ (w : WorldValue) (c : CampaignValue) (n : ℕ) (u : Unit) (s cost days : ℕ) (is : get c.units n ≡ Some u) (steady : IsSteady w c) (payable : cost ≤ u.holding.money) where
   abbrev learned : HoldingValue
   learned = with_study u.holding s cost days

@@ -43,23 +43,29 @@ module _ (w : WorldValue) (c : CampaignValue) (units : FinMap nat_cmp Unit) (str
     pub region : HasValue c.regions u.region
     pub structure : u.structure ≢ 0 → (s : Structure) × (get structures u.structure ≡ Some s) × (s.region ≡ u.region)
 
-  -- The units and structures are as many as in c, and what f and g make of those of c: other at most in region,
-  -- structure, guard flag and owner. Each is in a region that is there, and a unit inside a structure of this region or
-  -- none. Each structure has its right owner, and units that still guard are as they were. On water units are inside
-  -- ships, and structures are complete ships. Each faction has the same unit numbers.
+  -- The units and structures are as many as in `c`, and what `f` and `g` make of those of `c`.
   pub record AreTravelled : Type 0 where
     pub units_at : (k : ℕ) → get units k ≡ option_map (f k) (get c.units k)
     pub structures_at : (k : ℕ) → get structures k ≡ option_map (g k) (get c.structures k)
     pub unit_count : len units ≡ len c.units
     pub structure_count : len structures ≡ len c.structures
+    -- each faction has the same unit numbers
     pub of_factions : (m : ℕ) → numbers_of_faction m units ≡ numbers_of_faction m c.units
+    -- units are other at most in region, structure and guard flag
     pub same_units : Every (λ k u. IsSameUnit u (f k u)) c.units
+    -- structures are other at most in region and owner
     pub same_structures : Every (λ k y. IsSameStructure y (g k y)) c.structures
+    -- each unit is in a region that is there, and inside a structure of this region or none
     pub put : Every (λ k u. IsPut (f k u)) c.units
+    -- each structure is in a region that is there
     pub built : Every (λ k y. HasValue c.regions (g k y).region) c.structures
+    -- each structure has its right owner, after the changes
     pub owned : Every (λ k y. IsOwned travelled k (g k y)) c.structures
+    -- on water units are inside ships (`IsAboard`)
     pub aboard : Every (λ k u. is_land_at w (f k u).region ≡ false → IsAboard w travelled (f k u)) c.units
+    -- on water structures are complete ships
     pub afloat : Every (λ k y. is_land_at w (g k y).region ≡ false → (is_ship w y ≡ true) × (y.done ≡ size_of w y.kind)) c.structures
+    -- units that still guard are as they were
     pub guarding : Every (λ k u. guards (f k u) ≡ true → f k u ≡ u) c.units
 
   -- the units and structures after the changes are as `AreTravelled` says

@@ -55,7 +55,7 @@ land_is_there w r land = by_plan (get w.regions r) refl land
     by_plan None is dry = false_true dry
     by_plan (Some p) is dry = (p, is)
 
--- unit `n` is `u` in campaign `c`, before its walk; `to` is the number of the region that it walks to, which is land
+-- unit `n` is `u` in the steady campaign `c` before its walk; `to` is the number of the land region that it walks to
 module _ (w : WorldValue) (c : CampaignValue) (n : ℕ) (u : Unit) (to : ℕ) (is : get c.units n ≡ Some u) (steady : IsSteady w c) (land : is_land_at w to ≡ true) where
   abbrev old_place : ℕ
   old_place = u.structure

@@ -72,8 +72,8 @@ abbrev pub is_way : WorldValue → (from : ℕ) → (neighbour : Option ℕ) →
 is_way w from neighbour =
     option_map_or (λ to. is_some (get w.regions to) && not (is_land_at w from && is_land_at w to)) neighbour false
 
--- Why unit n can't sail the ship that it is inside (None: no structure) to region `to` (None: no neighbour there); None
--- where it can. The fault is the first that fits of NoMen, NotInside, NotOwner, NotComplete, NoWay, NoCrew, TooHeavy.
+-- Why unit n (`u`) can't sail the structure it is inside (None: none) to region `to` (None: no neighbour); None where
+-- it can. The fault is the first that fits of NoMen, NotInside, NotOwner, NotComplete, NoWay, NoCrew, TooHeavy.
 abbrev pub sail_fault : WorldValue → CampaignValue → (n : ℕ) → Unit → Option Structure → (to : Option ℕ) → Option EventFault
 sail_fault w c n u ship to = first_fault (
     (u.holding.men == 0, NoMen)
@@ -85,7 +85,7 @@ sail_fault w c n u ship to = first_fault (
     ∷ (nat_lt (capacity w ship) (sum_inside (load_of w) c u.structure), TooHeavy)
     ∷ [])
 
--- the campaign with the ship in region `to`, and all units inside it too, their guard flags cleared
+-- the campaign with structure `ship`, if it is there, in region `to`, and all units inside too, guard flags cleared
 unfoldable pub after_sailing : CampaignValue → (ship to : ℕ) → CampaignValue
 after_sailing c ship to = with_structure_region (fold (with_unit_moved ship to) c (numbers_inside ship c.units)) ship to
 
@@ -131,9 +131,7 @@ affects_nobody t n f = ⊥
 -- Order t, if it is a SAIL, makes the ship sail that unit n, of whatever faction f, is inside, as things are when the
 -- phase begins. The order is for a unit inside the same ship, of the faction that wrote it, and has no fault.
 pub record SailsWith (w : WorldValue) (begun : CampaignValue) (t : Task) (n f : ℕ) : Type 0 where
-  -- the order is for a unit inside the same structure as unit n
   pub together : structure_of_unit begun t.unit ≡ structure_of_unit begun n
-  -- the order has no fault as the phase begins
   pub done : (order_result (by_direction (sail w t.unit) t.order_value.operands) begun t.faction t.unit).1 ≡ Some (Done 0)
 
 -- What SAIL keeps: each unit is still there, and has changed at most as `IsAtMostMoved` allows. A unit is unchanged if

@@ -39,8 +39,8 @@ abbrev pub is_helpful : WorldValue → (skill : ℕ) → Option Structure → Bo
 is_helpful w s structure =
     option_map_or (λ b. b.done == size_of w b.kind && option_map_or (helps s) (slice_get w.kinds b.kind) false) structure false
 
--- the days of a skill that a unit has after a month of study: its `old` days, 30 for each man, 30 for each of the
--- `taught` men and, if `helped`, 10 for each man; at most 450 for each man
+-- The days of a skill that a unit has after a month of study, at most 450 for each man. They are its `old` days, 30 for
+-- each man, 30 for each of the `taught` men and, if `helped`, 10 for each man.
 abbrev pub days_after : (men old taught : ℕ) → (helped : Bool) → ℕ
 days_after men old taught helped =
     min (old + month_days * men + taught_days * taught + (if helped then helped_days * men else 0)) (most_days * men)
@@ -51,11 +51,11 @@ days_after men old taught helped =
 abbrev pub study_fault : HoldingValue → (cost : ℕ) → Option EventFault
 study_fault h cost = first_fault ((h.men == 0, NoMen) ∷ (nat_lt h.money cost, NoFee) ∷ [])
 
--- what a unit holds after it paid `cost` and has `days` of the skill; a skill with 0 days isn't listed
+-- a unit's holding with `cost` of money less (0 if it has less than that) and `days` of the skill; 0 days aren't listed
 abbrev pub with_study : HoldingValue → (skill cost days : ℕ) → HoldingValue
 with_study h s cost days = record h { money = h.money - cost; days = with_amount_of h.days s days }
 
--- the campaign after unit n, given as it is before, paid `cost`, which is booked as study, and has `days` of the skill
+-- the campaign after unit n (`u` before) paid `cost` and has `days` of the skill; minus `cost` is booked under study
 abbrev pub after_study : CampaignValue → (n : ℕ) → Unit → (skill cost days : ℕ) → CampaignValue
 after_study c n u s cost days =
     with_booking (with_holding_at c n (with_study u.holding s cost days) (Some u)) Study Money (neg_ℤ (pos cost))
@@ -81,8 +81,8 @@ study_step taught w aliases t = study_effect w taught t.unit t.order_value.opera
 
 -- ---- the phase
 
--- The effect of the phase of TEACH and STUDY: all orders of TEACH that count are carried out, for the units that are
--- learning as the phase begins, and then all of STUDY that count, with how many men of each unit were taught.
+-- The effect of the phase of TEACH and STUDY. First all orders of TEACH that count are carried out, for the units that
+-- are learning as the phase begins. Then all of STUDY that count are, with how many men of each unit were taught.
 abbrev pub learn_meaning : Meaning
 learn_meaning w c m =
     let lessons = after_lessons c (learners w c m) m in

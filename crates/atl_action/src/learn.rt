@@ -40,9 +40,9 @@ impl Phase for LearnPhase {
     }
 }
 
-/// The law that a unit that studies is, after the phase, what its own order of STUDY alone makes of
-/// it in the campaign as the phase began, if the mailings can be read with the world. Does nothing.
-/// See docs/RULES.md, "Learning".
+/// The law that after the phase a unit that studies is what its own order of STUDY alone makes of
+/// it in the campaign as the phase began. This supposes that the mailings can be read with the
+/// world. Does nothing. See docs/RULES.md, "Learning".
 pub fn units_study_as_begun()
     ensures { UnitsStudyAsBegun }
 {}

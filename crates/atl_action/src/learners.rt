@@ -25,6 +25,7 @@ impl PhaseVerbs for StudyVerbs {
     }
 }
 
+/// The skill that an order names, whose operands have the shape that STUDY takes.
 fn skill_of(order: PhaseOrder<'_>) -> u16
     requires { shape_of (task_of order).order_value.operands ≡ (row_of Verb.Study).shape }
     ensures { skill_of (task_of order.entry).order_value.operands ≡ Some result }
@@ -48,6 +49,7 @@ fn can_learn(world: &World, skill: u16, holding: &Holding) -> bool
     0 < men && cost_of(world, skill, men) <= u64::from(holding.money())
 }
 
+/// Puts the skill of an order under its unit, if the unit is the faction's own and can learn.
 fn add_learner(
     world: &World,
     campaign: &Campaign,
@@ -68,7 +70,7 @@ fn add_learner(
 }
 
 /// The number of the skill that each learning unit is learning, by the units' numbers. The orders
-/// are such as can be read with the world.
+/// are such as can be read with the world. AllocError without memory.
 pub(crate) fn learners(
     alloc: Global,
     world: &World,

@@ -58,6 +58,7 @@ fn crew_of(world: &World, holding: &Holding) -> u64
     u64::from(holding.men()) * u64::from(level_in_any(holding, world.rules().sailing))
 }
 
+/// What all units inside a structure are worth as a crew, and their load; both 0 for structure 0.
 fn crew_and_load(world: &World, campaign: &Campaign, structure: u32) -> (u128, u128)
     ensures crew { result.0 ≡ sum_inside (crew_of world.now) campaign.now.value structure }
     ensures load { result.1 ≡ sum_inside (load_of world.now) campaign.now.value structure }
@@ -114,6 +115,7 @@ fn sail_fault(
     }
 }
 
+/// Puts a ship and all units inside into region `to`, and clears the guard flags of these units.
 fn move_ship(alloc: Global, campaign: &mut Campaign, ship: u32, to: u32) -> Result<(), AllocError>
     ensures what { OnOk result (campaign.new.value ≡ after_sailing campaign.old.value ship to) }
     ensures marks { OnOk result (MarksChanges campaign.old campaign.new) }

@@ -94,6 +94,8 @@ fn pay_and_set_days(
     campaign.set_days(unit, u32::from(skill), days)
 }
 
+/// Takes the cost, books it, and sets the unit's days of the skill. The unit must be there and have
+/// that much money.
 fn put_study(
     world: &World,
     campaign: &mut Campaign,

@@ -1,4 +1,5 @@
 //! Whether the books balance: what is booked of each thing is what units and regions hold of it.
+//! There have to be at most 1,000,000 units and regions together.
 ghost use Rattle.std.specs.Prelude.{◌≡◌, ◌<◌, ℕ, length, pos, ◌↔◌, IsTrue};
 ghost use Rattle.atl_world.specs.Worlds.{IsWorld};
 ghost use Rattle.atl_records.specs.Books.{booked, thing_index, AreBooks};
@@ -12,6 +13,7 @@ use atl_campaign::Campaign;
 use atl_records::Thing;
 use atl_world::World;
 
+/// Whether the books balance for one of their things.
 fn is_balanced(campaign: &Campaign, thing: Thing) -> bool
     requires few { IsCountable campaign.now.value }
     requires there { thing_index thing < campaign.now.value.books.things }
@@ -21,7 +23,8 @@ fn is_balanced(campaign: &Campaign, thing: Thing) -> bool
     i128::from(campaign.total(thing)) == campaign.books().sum(thing)
 }
 
-/// Whether the books balance for each item of the world. Their things have to be the world's.
+/// Whether the books balance for each item of the world. Their things have to be the world's. The
+/// world keeps its rules (`world`).
 fn are_items_balanced(world: &World, campaign: &Campaign) -> bool
     requires few { IsCountable campaign.now.value }
     requires things { campaign.now.value.books.things ≡ thing_count world.now }
@@ -38,7 +41,7 @@ fn are_items_balanced(world: &World, campaign: &Campaign) -> bool
     true
 }
 
-/// Whether the books balance for money and for people.
+/// Whether the books balance for money and for people, which have to be things of the books.
 fn are_people_balanced(campaign: &Campaign) -> bool
     requires few { IsCountable campaign.now.value }
     requires there { 1 < campaign.now.value.books.things }

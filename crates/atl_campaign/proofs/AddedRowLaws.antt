@@ -27,6 +27,7 @@ map_none : {V : Type 0} (o : Option V) → o ≡ option_map (λ v. v) o
 map_none None = refl
 map_none (Some v) = refl
 
+-- changing what may be there by g, and then by f, is changing it by both in turn; None stays None
 pub map_twice : {V : Type 0} (f g : V → V) (o : Option V) → option_map f (option_map g o) ≡ option_map (λ v. f (g v)) o
 map_twice f g None = refl
 map_twice f g (Some v) = refl
@@ -116,7 +117,6 @@ picked r items items' days days' true true skill h =
 picked r items items' days days' true false true h = refl
 picked r items items' days days' true false false h = refl
 
--- a sort that is 0 (items) is not 1 (skills)
 no_skill : (s : ℕ) → (s == 0) ≡ true → (s == 1) ≡ false
 no_skill s h = ap (λ k. k == 1) (is_equal s 0 h)
 

@@ -48,14 +48,13 @@ from_range low high (pos n) h e =
     (ap pos (sym same), rw same least, rw same most)
 from_range low high (negsuc n) h e = absurd (false≢true e)
 
--- the number of the item or skill that a row of `has` is of
+-- the number, as it is read, of the item or skill that a row of `has` is of; `amount_of` is its amount, as it is read
 abbrev pub thing_of : StoredHas → ℕ
 thing_of r = as_u32 r.thing
 
 abbrev pub amount_of : StoredHas → ℕ
 amount_of r = as_u32 r.amount
 
--- a sort that is read as 0 (items) is not 1 (skills)
 not_skill : (z : ℤ) → as_u32 z ≡ 0 → is_from 1 1 z ≡ false
 not_skill (pos zero) h = refl
 not_skill (pos (suc n)) h = absurd (grind arith)

@@ -26,8 +26,8 @@ use Rattle.atl_campaign.proofs.RegionLaws.{changed-known, get-insert_same, same_
 
 -- ---- a structure is begun
 
--- a structure that can be begun: its name keeps the rule of names, it has no owner, is of a kind of the world and in a
--- land region of the campaign, and from 1 to the kind's size of it is done
+-- A structure that can be begun: its name keeps the rule of names, it has no owner, and it is of a kind of the world.
+-- It is in a land region of the campaign, and from 1 to the kind's size of it is done.
 pub record IsFresh (w : WorldValue) (c : CampaignValue) (s : Structure) : Type 0 where
   pub kind : s.kind < length w.kinds
   pub name : IsTrue (name_ok s.name)
@@ -78,7 +78,6 @@ module _ (w : WorldValue) (c : CampaignValue) (s : Structure) (fresh : IsFresh w
     books = old.numbers.books;
   }
 
-  -- the structure that is begun has no owner, so anything follows if it has one
   nobody : {P : Type 0} → s.owner ≢ 0 → P
   nobody some = absurd (some fresh.ownerless)
 

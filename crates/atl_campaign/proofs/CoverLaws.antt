@@ -498,8 +498,8 @@ module _ (c : MarkedCampaign) (n item amount : ℕ) where
   abbrev to_restock : Bool → Option Region
   to_restock b = if b then None else get c.value.regions n
 
-  -- setting a stock, with a mark on it alone or on all stocks of its region if the amount changes (MarksStock), marks
-  -- all that changes (MarksChanges)
+  -- setting a stock marks all that changes (MarksChanges), with the marks m after it: if the amount changes, the stock
+  -- is marked in m, alone or with all stocks of its region (MarksStock)
   pub marks-stock : (m : Marks) → MarksStock c n item amount m
       → MarksChanges c (record { value = with_stock c.value n item amount; marks = m })
   marks-stock m how = by_amount (stock_of c.value n item == amount) refl

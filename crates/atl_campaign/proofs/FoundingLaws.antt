@@ -76,8 +76,6 @@ founding_booked things money people t =
     from_nothing : (z : ℤ) → pos 0 +ℤ z ≡ z
     from_nothing z = omega (arith, ints)
 
--- for founded-balances: the money of units (a) and regions (m) together is what founding books of money, m, if units
--- have none
 held_money : (a m : ℕ) → a ≡ 0 → pos (a + m) ≡ pos m +ℤ pos 0
 held_money a m h = omega (arith, ints)
 

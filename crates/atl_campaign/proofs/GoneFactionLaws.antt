@@ -1,6 +1,6 @@
 -- Laws of a faction that is set gone: the campaign stays steady, totals stay, and the change is marked.
 -- Faction n of the campaign c is x; `with_gone c n` is the campaign in which the faction is gone, and c itself where it
--- has no faction n. `MarksChanges` also says that no mark is lost.
+-- has no faction n. Both have factions under the same numbers k. `MarksChanges` also says that no mark is lost.
 use Rattle.std.proofs.Common.{◌≡◌, ◌≢◌, ℕ, ◌+◌, true, [], Some, None, refl, sym, ap, subst, ◌∙◌, arith}
 use Rattle.std.specs.Prelude.{IsTrue}
 use Rattle.std.specs.Ordering.{nat_cmp}

@@ -1,6 +1,6 @@
 -- Laws of good campaigns: reports and mail keep them good, and good ones are early.
 -- c is a campaign of the world w. `mail` and `reports` are texts by the numbers of their factions. A faction joins with
--- the name `name`, the pass text `pass` and a word of the dice, `word`, and gets a first unit, `unit`.
+-- name `name`, pass text `pass` and a word of the dice, `word`; `faction` and `unit` are its number and its unit's.
 use Rattle.std.proofs.Common.{◌≡◌, ◌≤◌, ◌&&◌, ℕ, Bool, true, false, cond, nat_lt, List, Result, Ok, Err, subst, arith}
 use Rattle.std.proofs.lemmas.Bool.Decides.{nat_tests}
 use Rattle.std.specs.Cmp.Derive.{both_true}

@@ -21,7 +21,7 @@ listed_is_inside s units k listed =
       | false ↦ λ h. let (v, is, t) = listed_passing (λ u. u.structure == s) units k h in (v, is, is_equal v.structure s t)
     ] listed
 
--- each unit inside structure s is in the list of units inside it; 0 is no structure
+-- each unit inside structure s, which isn't 0 (no structure), is in the list of units inside it
 pub inside_is_listed : (s : ℕ) (units : FinMap nat_cmp Unit) → s ≢ 0
     → Every (λ k v. v.structure ≡ s → IsListed k (numbers_inside s units)) units
 inside_is_listed s units some k v is inside =

@@ -43,7 +43,6 @@ use Rattle.atl_campaign.proofs.TotalLaws.{total-with_unit}
 
 -- ---- the books
 
--- for joined-balances: a total x that is what is booked (b) still is, once n more come, and as much (p and q) is booked
 total_after_join : (x n : ℕ) (b p q : ℤ) → pos x ≡ b → pos n ≡ p +ℤ q → pos (x + n) ≡ (b +ℤ p) +ℤ q
 total_after_join x n b p q h g = omega (arith, ints)
 
@@ -74,7 +73,6 @@ joined-balances w name pass word c free h t =
     ∙ ap (λ z. z +ℤ booked_for t People (pos 1)) (sym (booked-after_booking c.books Joining Money (pos w.rules.start_money) t))
     ∙ sym (booked-after_booking one Joining People (pos 1) t)
 
--- the bound on amounts of the books (`amount_bound`) is at most 4 * 10^18 if a campaign's numbers are in range
 amounts_small : (w : WorldValue) (c : CampaignValue) → AreInRange w c → amount_bound c ≤ 4000000000000000000
 amounts_small w c numbers = omega (arith, numbers.month, numbers.few_factions)
 

@@ -32,7 +32,7 @@ abbrev pub HasNumber : {R : Type 0} → (R → ℕ) → List R → ℕ → Type 
 HasNumber number [] n = ⊥
 HasNumber number (r ∷ rows) n = (number r ≡ n) ⊎ HasNumber number rows n
 
--- two joined lists may change places in front of a third
+-- two lists in front of a third may change places: what is joined has the same elements, each as often
 pub exchange : {A : Type 0} (a b c : List A) → IsPermutation (a ++ (b ++ c)) (b ++ (a ++ c))
 exchange a b c =
     subst (λ xs. IsPermutation xs (b ++ (a ++ c))) (append_assoc a b c) (subst (λ ys. IsPermutation ((a ++ b) ++ c) ys) (append_assoc b a c) (IsPermutation-append_left c (a ++ b) (b ++ a) (IsPermutation-append_comm a b)))

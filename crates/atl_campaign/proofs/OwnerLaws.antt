@@ -1,7 +1,7 @@
 -- Laws of moving and removing a unit with marks: but for marks they do what with_place and without_unit do.
 -- c is the campaign before, and n the unit's number. `with_place` puts the unit in region r and structure s, and
 -- `without_unit` removes it; both give a structure that the unit owned and leaves to its next owner, and `with_place`
--- gives the unit one that it enters and nobody owns.
+-- gives the unit one that it enters and nobody owns. A unit's goods are its items and days of study.
 use Rattle.std.proofs.Common.{◌≡◌, ◌==◌, ℕ, Bool, true, false, Option, Some, None, refl, sym, ap, ◌∙◌}
 use Rattle.std.specs.Prelude.{if◌then◌else◌}
 use Rattle.std.specs.FinMap.{FinMap, get}
@@ -80,8 +80,8 @@ place_stays c n r s u is same =
     sym
     (ap (place_marked_at c n r s) is ∙ ap (λ b. if b then put_marked c n r s else handed_marked (handed_marked (put_marked c n r s) u.structure n (heir c.value u.structure n)) s 0 n) same)
 
--- Moving a unit to another structure puts it there, and marks it and its row (`put_marked`). The structure left goes to
--- the next owner (`heir`) if the unit owned it, and the one entered to the unit if it had no owner; each is marked.
+-- Moving a unit to another structure s (0: none) puts it there, and marks it and its row. The structure left goes to
+-- the next owner (`heir`) if the unit owned it, and s to the unit if it has no owner; what is handed over is marked.
 pub place_leaves : (c : MarkedCampaign) (n r s : ℕ) (u : Unit) → get c.value.units n ≡ Some u
     → (u.structure == s) ≡ false
     → handed_marked (handed_marked (put_marked c n r s) u.structure n (heir c.value u.structure n)) s 0 n

@@ -152,7 +152,7 @@ pub total-booking : (c : CampaignValue) (e : BooksEntry) (u t : Thing) (n : ℤ)
 unfolding total
 total-booking c e u t n = refl
 
--- booking under entry f and thing u leaves each amount of another number (`amount_number`) as it is
+-- booking n under entry f and thing u leaves each amount of another number (`amount_number`) as it is
 pub booking-other_amount : (books : BooksValue) (e f : BooksEntry) (t u : Thing) (n : ℤ)
     → amount_number e t ≢ amount_number f u → amount_in (after_booking books f u n) e t ≡ amount_in books e t
 booking-other_amount books e f t u n apart =

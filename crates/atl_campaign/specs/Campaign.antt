@@ -119,15 +119,15 @@ blank = record { value = empty_campaign; marks = no_marks }
 abbrev pub active : CampaignValue → List ℕ
 active c = numbers_where (λ f. not f.gone) c.factions
 
--- the numbers of the units in a region, in rising order
+-- the numbers of the units in region r, in rising order
 abbrev pub numbers_in_region : ℕ → FinMap nat_cmp Unit → List ℕ
 numbers_in_region r units = numbers_where (λ u. u.region == r) units
 
--- the numbers of the units of a faction, in rising order
+-- the numbers of the units of faction f, in rising order
 abbrev pub numbers_of_faction : ℕ → FinMap nat_cmp Unit → List ℕ
 numbers_of_faction f units = numbers_where (λ u. u.faction == f) units
 
--- the numbers of the units inside a structure, in rising order; none for 0, which is no structure
+-- the numbers of the units inside structure s, in rising order; none for 0, which is no structure
 abbrev pub numbers_inside : ℕ → FinMap nat_cmp Unit → List ℕ
 numbers_inside s units = if s == 0 then [] else numbers_where (λ u. u.structure == s) units
 
@@ -149,7 +149,7 @@ unit_changed f c n = record c { units = with_changed_value f c.units n }
 abbrev pub structure_changed : (Structure → Structure) → CampaignValue → ℕ → CampaignValue
 structure_changed f c n = record c { structures = with_changed_value f c.structures n }
 
--- the campaign in which faction n, if there is one, shows the given name
+-- the campaign in which faction n, if there is one, has the given name; the one that it joined under stays
 abbrev pub with_faction_name : CampaignValue → ℕ → List ℕ → CampaignValue
 with_faction_name c n name = faction_changed (λ f. record f { name = name }) c n
 
@@ -223,8 +223,7 @@ with_booking c e t n = record c { books = after_booking c.books e t n }
 abbrev pub without_mail : CampaignValue → CampaignValue
 without_mail c = record c { mail = empty }
 
--- the campaign with a structure put under the next structure number, in place of one that has it, if any; the number
--- rises by one
+-- the campaign with a structure put under the next structure number, in place of any there; the number rises by one
 abbrev pub with_structure_begun : CampaignValue → Structure → CampaignValue
 with_structure_begun c s = record c { next_structure = c.next_structure + 1; structures = insert c.structures c.next_structure s }
 

@@ -52,8 +52,7 @@ said_by_campaign_row c = (c.month, (c.pass, (c.next_faction, (c.next_unit, c.nex
 -- things the books have, nor of whether a stock of 0, or an amount of 0 of the books, is listed.
 pub record Covers (m : Marks) (before after : CampaignValue) : Type 0 where
   pub factions : SameBut m.factions before.factions after.factions
-  -- A region whose row is not marked is the same in the campaigns before and after but for its stocks, or is in
-  -- neither.
+  -- A region whose row is not marked is the same in both campaigns but for its stocks, or is in neither.
   pub regions :
       (n : ℕ) → contains m.regions n ≡ false
       → option_map unstocked (get after.regions n) ≡ option_map unstocked (get before.regions n)
@@ -67,8 +66,7 @@ pub record Covers (m : Marks) (before after : CampaignValue) : Type 0 where
   pub units : (n : ℕ) → contains m.rows n ≡ false → option_map without_goods (get after.units n) ≡ option_map without_goods (get before.units n)
   -- what a unit has of an item that is not marked is the same in the campaigns before and after, or listed in neither
   pub items : SameThings m.goods m.items items_under before.units after.units
-  -- the days that a unit has of a skill that is not marked are the same in the campaigns before and after, or listed in
-  -- neither
+  -- a unit's days of a skill that is not marked are the same in the campaigns before and after, or listed in neither
   pub days : SameThings m.goods m.skills days_under before.units after.units
   -- An amount of the books that is not marked is the same in both; one that isn't listed counts as 0.
   pub books :
@@ -88,8 +86,7 @@ abbrev pub ThingsStayMarked : (goods : FinSet nat_cmp) (things : MarkedThings)
 ThingsStayMarked goods things goods_after things_after =
     (n thing : ℕ) → is_thing_marked goods things n thing ≡ true → is_thing_marked goods_after things_after n thing ≡ true
 
--- no mark is lost: all that is marked in `before`, the marks before some changes, is marked in `after`, those after
--- them
+-- no mark is lost: all that is marked in the marks `before` some changes is marked in the marks `after` them
 pub record StayMarked (before after : Marks) : Type 0 where
   pub factions : StaysMarked before.factions after.factions
   pub regions : StaysMarked before.regions after.regions

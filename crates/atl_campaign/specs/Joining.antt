@@ -30,7 +30,7 @@ is_full c = (nat_le last_faction (len c.factions) || nat_le most_units (len c.un
 abbrev pub home_of : WorldValue → ℕ → ℕ
 home_of w word = slice_index (land_of w) (word % length (land_of w))
 
--- a faction as it joins, with the given number, name and pass text: not gone, and shown under the same name
+-- a faction as it joins, with the given number, name and pass text: not gone, and joined under that name
 abbrev pub new_faction : ℕ → List ℕ → List ℕ → Faction
 new_faction number name pass = record { number = number; joined_as = name; name = name; pass = pass; gone = false }
 

@@ -19,8 +19,7 @@ with_holding_at c n h (Some u) = record c { units = insert c.units n (record u {
 abbrev pub with_holding : CampaignValue → ℕ → HoldingValue → CampaignValue
 with_holding c n h = with_holding_at c n h (get c.units n)
 
--- the campaign with h as the holding of unit n after a loan, with the unit, its row and all its goods marked; unchanged
--- where there is no unit n
+-- the campaign with h as unit n's holding after a loan, and n, its row and all goods marked; unchanged if n isn't there
 abbrev pub after_loan : MarkedCampaign → ℕ → HoldingValue → MarkedCampaign
 after_loan c n h = record { value = with_holding c.value n h; marks = mark_unit c n }
 

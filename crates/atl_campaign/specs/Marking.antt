@@ -66,8 +66,8 @@ mark_unit_row c n = record c.marks {
   rows = marked_with c.marks.rows n (get c.value.units n);
 }
 
--- the marks after unit n's amount of an item was set to the last number. If the unit is there and had another amount of
--- it, the unit and that item are marked too, not its row.
+-- the marks after unit n's amount of an item was set to `amount`. If the unit is there and had another amount of it,
+-- the unit and that item are marked too, not its row.
 abbrev pub mark_item : MarkedCampaign → (unit item : ℕ) → ℕ → Marks
 mark_item c n item amount =
     let unit = unit_to_supply c.value.units n item amount in
@@ -80,8 +80,7 @@ mark_skill c n skill = record c.marks {
   skills = thing_marked c.marks.skills n skill (get c.value.units n);
 }
 
--- the campaign with unit n and one of its items marked, if there is such a unit and it has another amount of that item
--- than `amount`, and nothing else changed
+-- the campaign with unit n and an item marked, if n is there with another amount of it than `amount`; else unchanged
 abbrev pub item_marked : MarkedCampaign → (unit item : ℕ) → ℕ → MarkedCampaign
 item_marked c n item amount = record c { marks = mark_item c n item amount }
 
@@ -108,8 +107,8 @@ mark_peasants = mark_region (λ r. r.peasants)
 abbrev pub mark_region_money : MarkedCampaign → ℕ → ℕ → Marks
 mark_region_money = mark_region (λ r. r.money)
 
--- The marks after a stock of a region was set to the last number. If the region is there and had another amount, that
--- stock is marked too, and no other stock.
+-- The marks after a stock of a region was set to `amount`. If the region is there and had another amount, that stock is
+-- marked too, and no other stock.
 abbrev pub mark_stock : MarkedCampaign → (region item : ℕ) → ℕ → Marks
 mark_stock c n item amount =
     let region = region_to_restock c.value.regions n item amount in
@@ -118,8 +117,8 @@ mark_stock c n item amount =
       stock_items = thing_marked c.marks.stock_items n item region;
     }
 
--- The marks after a stock of a region was set to the last number without memory for a mark of its own. If the region is
--- there and had another amount, all its stocks are marked too.
+-- The marks after a stock of a region was set to `amount` without memory for a mark of its own. If the region is there
+-- and had another amount, all its stocks are marked too.
 abbrev pub mark_all_stocks : MarkedCampaign → (region item : ℕ) → ℕ → Marks
 mark_all_stocks c n item amount =
     let region = region_to_restock c.value.regions n item amount in

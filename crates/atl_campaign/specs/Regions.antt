@@ -79,8 +79,8 @@ with_stocks_marked r n = with_stocks_marked_in r n (map.get r.values n)
 abbrev pub region_to_restock : map.FinMap nat_cmp Region → (region item : ℕ) → ℕ → Option Region
 region_to_restock values n item amount = if stock_in values n item == amount then None else map.get values n
 
--- `after` has the marks of `before`. If the region was there with another stock of the item than the last number, there
--- is also a mark on that stock alone, or on all stocks of the region. Any regions may be in `after`.
+-- `after` has the marks of `before`. If the region was there with another stock of the item than `amount`, there is
+-- also a mark on that stock alone, or on all stocks of the region. Any regions may be in `after`.
 abbrev pub MarksStockAt : (before after : MarkedRegions) → (region item : ℕ) → ℕ → Type 0
 MarksStockAt before after n item amount =
     let region = region_to_restock before.values n item amount in

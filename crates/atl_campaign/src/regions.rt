@@ -1,6 +1,7 @@
-//! The regions of a campaign by number, with dirty marks on their rows and their stocks. A call
-//! that changes or marks a region does nothing where no region has the number given. `get` answers
-//! None there. Where memory runs out, the answer is AllocError.
+//! The regions of a campaign by number, with dirty marks: `rows` has the regions whose rows are
+//! marked, `markets` those of which a stock is, `stocks` those all of whose stocks are, and `items`
+//! single stocks. A call that changes or marks a region does nothing where no region has the number
+//! given. `get` answers None there. Where memory runs out, the answer is AllocError.
 ghost use Rattle.std.specs.Prelude.{◌≡◌, ◌≤◌, ◌+◌, ◌*◌, ◌⊎◌, IfOk, IsOk, OnOk, OnErr, None, option_copied, if◌then◌else◌};
 ghost use Rattle.std.specs.FinMap as map;
 ghost use Rattle.std.specs.FinSet as set;
@@ -177,6 +178,7 @@ impl Regions {
         }
     }
 
+    /// Marks the region's row, if `differs` is true.
     fn mark_row_if(&mut self, differs: bool, number: u32)
         ensures { self.new ≡ record self.old {
           rows = marked_with self.old.rows number

@@ -1,5 +1,5 @@
 //! How much of a thing all units hold together, and how much all regions hold, with their stocks.
-//! There have to be at most 1,000,000 of each; each holds at most 2^32 - 1.
+//! There have to be at most 1,000,000 of each, and a total is at most their count times 2^32 - 1.
 ghost use Rattle.std.specs.Prelude.{◌≡◌, ◌≤◌, ◌*◌, length};
 ghost use Rattle.std.specs.FinMap as map;
 ghost use Rattle.atl_world.specs.Sums.{sum_over};

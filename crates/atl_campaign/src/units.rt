@@ -1,9 +1,10 @@
 //! The units of a campaign by number, with dirty marks on their rows, all goods (items and days of
-//! study), and single items and skills. A call that changes or removes a unit does nothing where no
-//! unit has the number given. `get` answers None there. To set a name, men, money or the guard flag
-//! marks the unit and its row; `insert` and `remove` also mark all its goods. If a unit lists an
-//! item with 0 pieces, the item is marked whatever it is set to. Where memory runs out, the answer
-//! is AllocError, and after `insert` nothing has changed.
+//! study), and single items and skills; `marks` has each unit with any of these. A call that
+//! changes or removes a unit does nothing where no unit has the number given. `get` answers None
+//! there. To set a name, men, money or the guard flag marks the unit and its row; `insert`, under a
+//! number that no unit has, and `remove` also mark all its goods. If a unit lists an item with 0
+//! pieces, the item is marked whatever it is set to. Where memory runs out, the answer is
+//! AllocError, and after `insert` nothing has changed.
 ghost use Rattle.std.specs.Prelude.{◌≡◌, ◌≤◌, ◌⊎◌, IfOk, OnOk, OnErr, option_copied, None};
 ghost use Rattle.std.specs.FinMap as map;
 ghost use Rattle.std.specs.FinSet as set;

@@ -1,5 +1,5 @@
--- Laws on bytes that are UTF-8, or aren't.
--- `bs` are the bytes, and `t` is the text made of them. `if_utf8` gives Some of the bytes if they are UTF-8, else None.
+-- Laws on `if_utf8`: of bytes `bs` that are UTF-8 it gives Some of them, which are also the text `t` made of them; of
+-- other bytes it gives None.
 use Rattle.std.proofs.Common.{◌≡◌, ℕ, List, Bool, true, false, Some, None, refl, sym, ap, ◌∙◌}
 use Rattle.std.specs.Str.{IsUtf8, is_utf8}
 use Rattle.std.proofs.lemmas.Str.{is_utf8-from_IsUtf8, IsUtf8-from_is_utf8}

@@ -8,11 +8,13 @@ use Rattle.sqlite_value.specs.Order.{Row, column}
 use Rattle.atl_columns.specs.Fields.{both, columns_from, encode_then, decode_then, decode_end}
 use Rattle.atl_columns.specs.Forms.{Form, HasForm, IsTypedFrom}
 
+-- if two values are there as the pair `p` (`both`), the first one is there
 pub both_first : {X Y : Type 0} (a : Option X) (b : Option Y) (p : X × Y) → both a b ≡ Some p → a ≡ Some p.0
 both_first None b p is = cc
 both_first (Some x) None p is = cc
 both_first (Some x) (Some y) p is = let e : ◌≡◌ {A = _} (x, y) p = cc in ap (λ q. Some q.0) e
 
+-- if two values are there as the pair `p` (`both`), the second one is there
 pub both_second : {X Y : Type 0} (a : Option X) (b : Option Y) (p : X × Y) → both a b ≡ Some p → b ≡ Some p.1
 both_second None b p is = cc
 both_second (Some x) None p is = cc
@@ -52,9 +54,11 @@ module _ {X Y : Type 0} (read_one : Value → Option X) (read_more : Row → Opt
       elim (neither (read_one (column row at)) (read_more (columns_from (at + 1) (length forms) row)) is)
       [ inl a ↦ first a typed.0 | inr b ↦ others b typed.1 ]
 
+-- a row without values is read as no fields (`decode_end`)
 pub end_other : decode_end [] ≡ None → ⊥
 end_other is = let e : ◌≡◌ {A = Option (Unit {0})} (Some tt) None = is in cc
 
+-- a row that is read as no fields (`decode_end`) has no values
 pub end_same : (row : Row) (x : Unit {0}) → decode_end row ≡ Some x → ◌≡◌ {A = Row} [] row
 end_same [] x is = refl
 end_same (v ∷ vs) x is = cc

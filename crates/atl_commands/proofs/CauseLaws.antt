@@ -20,8 +20,7 @@ use Rattle.atl_commands.specs.Causes.{GivesError, HasCause}
 
 -- if a test chose between two different values, the chosen value shows the test's result
 module _ {F : Type 0} (memory other : F) (apart : memory ≢ other) where
-  -- for `write_lacked_memory` and `creation_lacked`: if a test that chooses between the faults `memory` and `other`,
-  -- which differ, chose `memory`, it is true
+  -- if the test chose `memory`, it is true
   is_first : (b : Bool) → memory ≡ cond b memory other → b ≡ true
   is_first true is = refl
   is_first false is = absurd (apart is)

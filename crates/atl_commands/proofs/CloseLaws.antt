@@ -205,8 +205,8 @@ report_marked w c d n faults events is m =
     marked_as c d (reported_with w c.value n faults events) (mark_report c n) is m
     (marks-report c n (report_of w (view_of w c.value n) faults events))
 
--- From before a month (`a`) to after it (`d`) no mark is lost, and all that changed is marked, if this holds of its
--- phases (from `a` to `b`). After the phases the month is set to `n` (`c`) and then the mail removed (`d`).
+-- No mark is lost from before a month (`a`) to after it (`d`), and all that changed is marked, if so in its phases (`a`
+-- to `b`). Then the month is set to `n` and the campaign row marked (`c`), and the mail removed and marked (`d`).
 pub turned_marked : (a b c d : MarkedCampaign) (n : ℕ) → MarksChanges a b → c.value ≡ with_month b.value n
     → c.marks ≡ mark_campaign_row b → d.value ≡ without_mail c.value → d.marks ≡ mark_all_mail c → MarksChanges a d
 turned_marked a b c d n run is m taken t =

@@ -80,8 +80,8 @@ arrival w name pass word c good =
       report = is_there _ report (get_inserted c.reports c.next_faction report);
     }
 
--- the campaign after a join into a good one, with the first report of the faction `n` that joined, has what a write of
--- the join needs: faction, report and last unit, and books with money and people (`HasArrival`)
+-- After a join into a good campaign `c`, the campaign with the first report of the faction `n` that joined has what a
+-- write needs (`HasArrival`). That is the faction, its report, the last unit, and books with money and people.
 pub arrives : (w : WorldValue) (name pass : List ℕ) (word : ℕ) (c d : CampaignValue) (n m : ℕ) → IsGood w c
     → join_of w name pass word c ≡ Ok (d, (n, m)) → HasArrival (reported w d n) n
 unfolding join_of

@@ -130,8 +130,7 @@ module _ {S : Type 0} (g : Ghosts S) where
   first_open old mid new c x (Fault Store) cs rs ran was later holds up rest = let k = ended_in_fault old mid new c x Store cs rs ran.0 ran.1 holds later.clean rest in (((λ e. let d = e in cc), k.0, k.1, k.2, k.3), k.4)
   first_open old mid new c x (Fault Closed) cs rs ran was later holds up rest = absurd ran
 
-  -- for an open or a closed service: if its first command ran as promised, and the rest of the list is answered as
-  -- promised, so is the whole list (`FollowsAt`)
+  -- for an open or a closed service: a list is answered as promised, if its first command and its rest are
   first_at : (old mid new : ServiceValue S) (x : Command) (a : Answer) (cs : List Command) (rs : List Answer) (o : Option CampaignValue)
       → old.campaign ≡ o → RunsAt g old x a mid o
       → (HasCleanDisk (state g new.conn) → HasCleanDisk (state g mid.conn))

@@ -90,8 +90,8 @@ module _ {S : Type 0} (g : Ghosts S) where
         subst (λ e. Runs g e command answer (service_value conn' w c' true)) seen (runs_open answer before leaves done)
     runs_on old answer false seen up before leaves done = absurd (false≢true up)
 
-    -- The command ended in a fault. On a clean disk the tables keep the campaign before the command, while the
-    -- connection is open. A crash leaves this campaign or the one after the command (`CommandLeavesAfterFault`).
+    -- The command ended in a fault (`CommandLeavesAfterFault`). On a clean disk, tables that held the campaign `c`
+    -- still do while the connection is open. A crash leaves this campaign or the one after the command, and a good one.
     abbrev pub EndedInFault : Type 0
     EndedInFault = CommandLeavesAfterFault g w c conn command conn'
 

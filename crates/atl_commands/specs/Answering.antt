@@ -44,7 +44,6 @@ IfTextOrRefused (Fault _) P = ⊤
 -- tables held the old campaign, they hold the new one.
 pub record Answers {S : Type 0} (g : Ghosts S) (w : WorldValue) (before : CampaignValue) (old : Held S)
     (command : Command) (after : CampaignValue) (new : Held S) (answer : Answer) : Type 0 where
-  -- the campaign after the command and the answer are those of `step`
   pub step_is : step w before command ≡ (after, answer)
   pub no_fault : IsNoFault answer
   -- a report or a refusal changes neither campaign nor connection
@@ -53,9 +52,9 @@ pub record Answers {S : Type 0} (g : Ghosts S) (w : WorldValue) (before : Campai
   -- if the disk is clean, tables that held the campaign before hold the campaign after, with the same world text
   pub tables : HasCleanDisk (state g new) → (text : List ℕ) → Keeps (state g old) text before → Keeps (state g new) text after
 
--- What a command that ended in a fault leaves on a clean disk: tables that held the campaign before the command still
--- do, while the connection is open. A crash leaves that campaign or the one after `step`, and the one that it leaves is
--- good (`LeavesGood`).
+-- What a command that ended in a fault leaves on a clean disk, if the tables held the campaign before it with some
+-- world text: they still do, while the connection is open. A crash leaves that campaign or the one after `step`, and
+-- the one that it leaves is good (`LeavesGood`).
 abbrev pub CommandLeavesAfterFault : {S : Type 0} → Ghosts S → WorldValue → CampaignValue → Held S → Command → Held S → Type 0
 CommandLeavesAfterFault g w before old command new =
     HasCleanDisk (state g new) → (text : List ℕ) → Keeps (state g old) text before
@@ -63,8 +62,8 @@ CommandLeavesAfterFault g w before old command new =
 
 -- After any command, answered or failed, the connection is in no transaction. A disk that isn't clean stays so, no
 -- failure of it is forgotten, and reads that are compared with digests stay so (`IsLater`). If the disk is clean and
--- the connection is open, tables that aren't the campaign's hold what they held (`LeavesOthersAlone`). For that the
--- connection must have had, before the command, the tables of a campaign and nothing uncommitted.
+-- the connection is open, no table or index is gone, and tables that aren't the campaign's hold what they held. For
+-- that the connection must have had, before the command, the tables of a campaign and nothing uncommitted.
 pub record LeavesIdle {S : Type 0} (g : Ghosts S) (old new : Held S) : Type 0 where
   pub idle : new.in_transaction ≡ false
   pub later : IsLater (state g old) (state g new)
@@ -84,12 +83,10 @@ pub record IsReadyToAnswer {S : Type 0} (w : WorldValue) (c : CampaignValue) (co
 -- connection is in no transaction, and an answer leaves nothing marked, if nothing was.
 pub record AnswersOrFails {S : Type 0} (g : Ghosts S) (w : WorldValue) (before : MarkedCampaign) (old : Held S)
     (command : Command) (result : Result Answer WriteFault) (after : MarkedCampaign) (new : Held S) : Type 0 where
-  -- an answer and what it leaves are those of `step` (`Answers`)
   pub ok : IfOk result (Answers g w before.value old command after.value new)
   -- after a fault, on a clean disk, tables that held the campaign before the command still do, while the connection is
   -- open (`CommandLeavesAfterFault`)
   pub err : OnErr result (CommandLeavesAfterFault g w before.value old command new)
-  -- a fault has its cause (`HasCause`)
   pub cause : IfErr result (λ fault. HasCause g (OfCommand w before.value command) old new (fault_of_write fault))
   -- the connection is in no transaction, no failure of the disk is forgotten, and other tables stay (`LeavesIdle`)
   pub leaves : LeavesIdle g old new

@@ -14,7 +14,6 @@ use Rattle.atl_store.specs.Keeps.{LeavesAfterFault, Stores}
 pub record LeavesGood (w : WorldValue) (faults : ℕ) (s : State) (text : List ℕ) (before after : CampaignValue) : Type 0 where
   -- while the connection is open, its tables hold `before`; only a new failure of the disk shuts it
   pub tables : LeavesAfterFault faults s text before after
-  -- the campaign `before` is good
   pub good : IsGood w before
   -- a crash leaves a file that stores the campaign `before`, or the campaign `after`, which then is good
   pub crash : (db : Trees) → s.may_leave db → Stores db text before ⊎ (Stores db text after × IsGood w after)

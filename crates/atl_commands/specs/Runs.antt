@@ -25,7 +25,6 @@ use Rattle.atl_commands.specs.Service.{ServiceValue, text_in}
 -- new campaign.
 pub record Accepts {S : Type 0} (g : Ghosts S) (c : CampaignValue) (old : ServiceValue S)
     (command : Command) (answer : Answer) (new : ServiceValue S) : Type 0 where
-  -- the campaign after the command
   pub after : CampaignValue
   -- the campaign after the command and the answer are those of `step`
   pub step : step old.world c command ≡ (after, answer)
@@ -39,7 +38,7 @@ abbrev pub Refuses : {S : Type 0} → CampaignValue → ServiceValue S → Comma
 Refuses c old command answer new = (step old.world c command ≡ (c, answer)) × (new ≡ old)
 
 -- A fault closed the service. If the disk is clean, the tables hold the campaign before the command while the
--- connection is open; a crash leaves that campaign or the one after `step`, and the one that it leaves is good.
+-- connection is open. A crash leaves that campaign or the one after `step`, and the one that it leaves is good.
 pub record Closes {S : Type 0} (g : Ghosts S) (c : CampaignValue) (old : ServiceValue S)
     (command : Command) (new : ServiceValue S) : Type 0 where
   -- the service is closed, so has no campaign; its world is as before
@@ -150,24 +149,19 @@ pub record RunsAll {S : Type 0} (g : Ghosts S) (old : ServiceValue S) (commands 
 pub record Headline {S : Type 0} (g : Ghosts S) (text : List ℕ) (w : WorldValue) (c : CampaignValue)
     (commands : List Command) (answers : List Answer) (new : ServiceValue S) : Type 0 where
   pub answers_are : answers ≡ (run_of w c commands).1
-  -- the service is open with the campaign that `run_of` ends with
   pub campaign_is : new.campaign ≡ Some (run_of w c commands).0
-  -- if the disk is clean, the tables hold the campaign that `run_of` ends with, and the world text
   pub tables : HoldsCampaign g new.conn text (run_of w c commands).0
 
--- A command ended in a fault that has its cause: the answers before it are those of `run_of`, and all later answers are
--- Closed. If the disk is clean, the tables stay at the campaign of the commands before the fault, while the connection
--- is open (`LeavesGood`). The list is run from campaign `c` on; `faults` is how often the disk had failed before it.
+-- The command at index `count` ended in a fault with its cause: the answers before it are those of `run_of`, and all
+-- later ones are Closed. If the disk is clean, the tables stay at the campaign before this command, while the
+-- connection is open (`LeavesGood`). The list runs from campaign `c` on; the disk had failed `faults` times before.
 pub record Interrupted {S : Type 0} (g : Ghosts S) (text : List ℕ) (faults : ℕ) (w : WorldValue) (c : CampaignValue)
     (commands : List Command) (answers : List Answer) (new : ServiceValue S) : Type 0 where
   -- the number of commands before the command that failed
   pub count : ℕ
-  -- the command that failed
   pub command : Command
-  -- the command that failed is at index `count` of the list
   pub at : slice_get commands count ≡ Some command
   pub within : count < length commands
-  -- the fault that the command ended in
   pub fault : Failure
   -- the fault isn't Closed, so the service was open until then
   pub first : fault ≢ Closed

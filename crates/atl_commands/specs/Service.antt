@@ -21,7 +21,7 @@ pub record ServiceValue (S : Type 0) : Type 0 where
   pub world : WorldValue
   pub campaign : Option CampaignValue
 
--- for proofs alone: the encoding of a service's value by its parts, which the kit requires of each type
+-- for proofs alone: the code of a service's value, which the kit requires of each type; `store` is that of its store
 abbrev pub service_code : {S : Type 0} → Coded S → Coded (ServiceValue S)
 service_code {S} store =
     code_by (Held S × (WorldValue × Option CampaignValue))
@@ -30,7 +30,7 @@ service_code {S} store =
     (λ p. record { conn = p.0; world = p.1.0; campaign = p.1.1 })
     (λ _. refl)
 
--- the world text that the tables of the connection hold
+-- the world text that the tables of the connection hold; empty if they hold none
 abbrev pub text_in : {S : Type 0} → Ghosts S → Held S → List ℕ
 text_in g conn = world_text (state g conn)
 
@@ -40,7 +40,6 @@ pub record IsConsistent {S : Type 0} (g : Ghosts S) (conn : Held S)
     (w : WorldValue) (c : CampaignValue) (is_open : Bool) : Type 0 where
   pub idle : conn.in_transaction ≡ false
   pub good : is_open ≡ true → IsGood w c
-  -- while the service is open and the disk is clean, its tables hold its campaign
   pub tables : is_open ≡ true → HoldsCampaign g conn (text_in g conn) c
   -- while the service is open and the disk is clean, the world text that its tables hold reads as its world
   pub text : is_open ≡ true → HasCleanDisk (state g conn) → world_of (text_in g conn) ≡ Ok w
@@ -50,5 +49,4 @@ pub record IsConsistent {S : Type 0} (g : Ghosts S) (conn : Held S)
 pub record IsService {S : Type 0} (g : Ghosts S) (conn : Held S)
     (w : WorldValue) (c : MarkedCampaign) (is_open : Bool) : Type 0 where
   pub consistent : IsConsistent g conn w c.value is_open
-  -- while the service is open, nothing of its campaign is marked
   pub unmarked : is_open ≡ true → c.marks ≡ no_marks

@@ -99,8 +99,8 @@ impl From<MailFault> for MailError {
     }
 }
 
-/// The mailing as read, if it may be stored. The refusals come in this order: NoFaction, WrongPass,
-/// Gone, then TooLong, NoHeader or BadHeader of reading the text, WrongFaction.
+/// The mailing as read, if it may be stored; Memory if memory ran out. The refusals in their order:
+/// NoFaction, WrongPass, Gone, TooLong or NoHeader or BadHeader of the text, WrongFaction.
 #[tactic(auto, unfolding(crate::specs::Step::step))]
 fn mailing_to_keep(
     alloc: Global,
@@ -161,6 +161,7 @@ fn mail<S: Alter>(
     Ok(Answer::Mailed { orders, faults })
 }
 
+/// The stored report of a faction, empty if none is stored; or the refusal NoFaction or WrongPass.
 #[tactic(auto, unfolding(crate::specs::Step::step))]
 fn report(
     alloc: Global,

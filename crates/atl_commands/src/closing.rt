@@ -52,6 +52,7 @@ fn read_stored(alloc: Global, world: &World, text: &[u8]) -> Result<Mailing, All
     }
 }
 
+/// Reads the mailing of each faction that has one, in the order of the factions' numbers.
 fn read_mail(alloc: Global, world: &World, campaign: &Campaign) -> Result<ReadMail, AllocError>
     requires { IsGood world.now campaign.now.value }
     ensures { IfOk result (HasRead world.now campaign.now.value) }

@@ -31,6 +31,8 @@ impl Drop for MonthResult {
     }
 }
 
+/// Stores a report of a faction: what it sees (`seen`), `faults`, and its own events among
+/// `events`. After an Err nothing is changed.
 fn store_report_with(
     alloc: Global,
     world: &World,
@@ -52,6 +54,7 @@ fn store_report_with(
     Ok(())
 }
 
+/// Stores the first report of a faction: what it sees. After an Err nothing is changed.
 pub(crate) fn store_first_report(
     alloc: Global,
     world: &World,
@@ -67,6 +70,7 @@ pub(crate) fn store_first_report(
     store_report_with(alloc, world, campaign, &seen, faction, &[], &[])
 }
 
+/// Stores the month's report of one faction. `sorted` has all events of the outcome by faction.
 fn report_to(
     alloc: Global,
     world: &World,

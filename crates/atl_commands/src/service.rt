@@ -82,12 +82,13 @@ impl<S: Alter> Service<S> {
     }
 
     /// Runs one command and returns its answer. A command that is refused, or answered with a
-    /// report, changes nothing. If the disk is clean, fault Store means that a call of the write
-    /// gave another error than out of memory, and fault Memory that one ran out of memory, or that
-    /// memory ran out before the database was asked to write. If the disk is clean, the tables are
-    /// as before after either fault, while the connection is open. A crash then leaves the campaign
-    /// before the command or after it, and a good one. After a fault the service is closed,
-    /// whatever the disk: every later command is answered Closed and changes nothing. See
+    /// report, changes nothing. After a fault the service is closed: every later command is
+    /// answered Closed and changes nothing. While it is open its books balance. The rest holds if
+    /// the disk is clean. While the service is open the tables hold its campaign, and other tables
+    /// stay as they were. Fault Store means that a call of the write gave another error than out of
+    /// memory. Fault Memory means that one ran out of memory, or that memory ran out before the
+    /// database was asked to write. The tables are as before after either, while the connection is
+    /// open. A crash then leaves the campaign before the command or after it, and a good one. See
     /// docs/RULES.md, "Joining", "Mail", "Closing a month", "Reports" and "Refusals and faults".
     pub fn run(&mut self, command: &Command) -> Answer
         ensures runs { Runs S.Store self.old command.now result self.new }
@@ -117,8 +118,8 @@ impl<S: Alter> Service<S> {
     }
 
     /// Runs commands in their order, and returns one answer for each; after a fault all later
-    /// answers are Closed. Memory for the answers is allocated first: if there is none, nothing
-    /// is run and nothing changes. See docs/RULES.md, "Refusals and faults".
+    /// answers are Closed. Memory for the answers is allocated first: if there is none, nothing is
+    /// run and nothing changes. The books balance. See docs/RULES.md, "Refusals and faults".
     pub fn run_all(&mut self, commands: &[Command]) -> Result<Vec<Answer>, AllocError>
         ensures runs { IfOk result
             (λ answers. RunsAll S.Store self.old commands.now answers.items self.new) }
@@ -136,8 +137,8 @@ impl<S: Alter> Service<S> {
         Ok(answers)
     }
 
-    /// The campaign, while the service is open; None once it is closed. Nothing of it is marked:
-    /// all changes have been written.
+    /// The campaign, while the service is open; None once it is closed. It is good, its books
+    /// balance, nothing of it is marked, and on a clean disk the tables hold it.
     pub fn campaign(&self) -> Option<&Campaign>
         ensures value { option_map (λ c. c.value) (option_copied result) ≡ self.now.campaign }
         ensures good { IfSome self.now.campaign (IsGood self.now.world) }
@@ -176,8 +177,8 @@ impl<S: Alter> Service<S> {
         &self.world
     }
 
-    /// Ends the service and returns its connection, with the tables as they are. The memory of
-    /// world and campaign stays taken until the process ends, which gives it back in one step.
+    /// Ends the service and returns its connection. On a clean disk the tables hold the campaign of
+    /// an open service. The memory of world and campaign stays taken until the process ends.
     pub fn end(self) -> Connection<S>
         ensures value { result ≡ self.conn }
         ensures tables { IfSome self.campaign

@@ -25,6 +25,7 @@ fn add_event(
     }
 }
 
+/// The events of each faction under its number, in their order. AllocError without memory for them.
 pub(crate) fn events_by_faction(
     alloc: Global,
     events: &[Event],

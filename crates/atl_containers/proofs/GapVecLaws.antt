@@ -19,8 +19,7 @@ module _ {A : Type 0} (xs : List A) (free position : ℕ) where
   count : free + position - free ≡ position
   count = omega arith
 
-  -- moving the list's first `position` elements up by one, over the next one, removes that one from the list; one more
-  -- element is unused then
+  -- moving the list's first `position` elements up by one, over the next one, removes that one; one more is unused then
   pub closed : free + position < length xs
       → drop (free + 1) (copy_within xs free (free + position) (free + 1)) ≡ remove (drop free xs) position
   closed l =

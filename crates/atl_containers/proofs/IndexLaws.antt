@@ -1,6 +1,5 @@
--- Laws of the index: a list of entries (a number and its slot), sorted by number, is a map from numbers to slots. `ps`
--- are the entries of an index, n is a number, k a slot, i an index of the list, and d any entry. r is what a binary
--- search returns.
+-- Laws of the index: a list of entries (number and slot), sorted by number, is a map from numbers to slots. `ps` are an
+-- index's entries, n is a number, k a slot, i an index, d any entry, and r what a binary search returns, in range.
 use Rattle.std.proofs.Common.{◌≡◌, ℕ, zero, suc, ◌+◌, ◌-◌, ◌<◌, ◌⊎◌, inl, inr, Bool, true, false, cond, not, ◌&&◌, List, [], ◌∷◌, length, map, get_or, Option, Some, None, refl, sym, ap, ◌∙◌, arith}
 use Rattle.std.specs.Prelude.{Result, Ok, Err, IfOk, IfErr, is_some}
 use Rattle.std.specs.List.{list_any, insert, remove, slice_get}

@@ -19,8 +19,7 @@ use Rattle.atl_world.proofs.EveryLaws.{none_some}
 
 -- ---- put_number and take_number as recursions: n is the number, x the first of the list, and xs are the others
 
--- for put_number-cons: n is put in front of a first element x where t is true, as n is at most x, and else into the
--- rest of the list
+-- for put_number-cons: n is put in front of a first element x where t is true, as n is at most x, else into the rest
 put_step : (t : Bool) (n x : ℕ) (xs : List ℕ)
     → take (cond (not t) (1 + first_not_below n xs) 0) (x ∷ xs) ++ n ∷ drop (cond (not t) (1 + first_not_below n xs) 0) (x ∷ xs)
     ≡ cond t (n ∷ x ∷ xs) (x ∷ put_number n xs)
@@ -37,8 +36,7 @@ pub put_number-nil : (n : ℕ) → put_number n [] ≡ n ∷ []
 unfolding put_number
 put_number-nil n = refl
 
--- for take_number-cons: taking n out removes a first element x where t is true, as n is at most x, and else takes n out
--- of the rest of the list
+-- for take_number-cons: taking n out removes a first element x if t is true, as n is at most x, else n from the rest
 take_step : (t : Bool) (n x : ℕ) (xs : List ℕ)
     → remove (x ∷ xs) (cond (not t) (1 + first_not_below n xs) 0) ≡ cond t xs (x ∷ take_number n xs)
 unfolding take_number

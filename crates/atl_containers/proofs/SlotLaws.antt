@@ -150,8 +150,8 @@ module _ {V : Type 0} where
         (sym (get-insert nat_cmp_total i n k a) ∙ h);
   }
 
-  -- once a value is put into a vacant slot to which a number then leads, the map of values has it under this number,
-  -- and is otherwise the same
+  -- once a value is put into a vacant slot to which n then leads, the map of values has it under n, and is otherwise
+  -- the same
   pub values_added : (i : FinMap nat_cmp ℕ) (s t : slab.Slab V) (n k : ℕ) (x : V) → slab.Updates s t k (Some x)
       → slab.get s k ≡ None → HaveOwnSlots i s → values_of (insert i n k) t ≡ insert (values_of i s) n x
   values_added i s t n k x u vacant held = same_map nat_cmp_total nat_cmp-IsAntisymmetric _ _ (λ q.
@@ -273,6 +273,7 @@ module _ {V : Type 0} where
   IsArena-same i s t same as_many held =
       record { slots_used = HaveOwnSlots-same i s t same held.slots_used; none_idle = as_many ∙ held.none_idle }
 
+  -- an index without numbers and a slab without slots are an arena (IsArena)
   pub IsArena-empty : (s : slab.Slab V) → s.slots ≡ [] → IsArena empty s
   IsArena-empty s none =
       record { slots_used = HaveOwnSlots-empty s; none_idle = ap (count_by is_some) none ∙ sym (len-empty nat_cmp ℕ) }

@@ -72,8 +72,7 @@ impl<V: Drop> Arena<V> {
         }
     }
 
-    /// Lends the value under a number, which may be changed so; None where there is none. It takes
-    /// no memory.
+    /// Lends the value under a number, to be changed; None where there is none. It takes no memory.
     pub fn get_mut(&mut self, number: u32) -> Option<&mut V>
         ensures* writes_back { sem 𝓛 (LendsSlot V.row self.entry number result) }
         ensures value { option_copied_mut result ≡ map.get self.old number }

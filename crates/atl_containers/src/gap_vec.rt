@@ -6,8 +6,7 @@ use std::alloc::{AllocError, Global};
 use std::marker::Model;
 
 /// A list in a vector whose first `free` elements are unused, at most half of all. To insert or
-/// remove an element moves those on its nearer side, and now and then, to make room or give it up,
-/// all.
+/// remove an element moves those on its nearer side, and now and then all, for more or less room.
 #[derive(Drop)]
 pub(crate) struct GapVec<T> {
     items: Vec<T>,

@@ -87,8 +87,7 @@ impl Index {
         Ok(())
     }
 
-    /// Removes a number, and returns the slot that it led to, or None where it led to none. It
-    /// takes no memory.
+    /// Removes a number; returns the slot that it led to, None if it led to none. Takes no memory.
     pub fn remove(&mut self, number: u32) -> Option<usize>
         ensures slot { result ≡ map.get self.old number }
         ensures taken { self.new ≡ map.remove self.old number }
@@ -120,7 +119,7 @@ impl Index {
     }
 }
 
-/// The guess is the number less the first entry's; None if the number isn't at this index.
+/// The index of the entry with the number, if it is the number less the first entry's; else None.
 fn guess_position(entries: &[IndexEntry], number: u32) -> Option<usize>
     ensures { IfSome result (λ position. IsAt (index_numbers entries.now) number position) }
 {
@@ -132,7 +131,7 @@ fn guess_position(entries: &[IndexEntry], number: u32) -> Option<usize>
     }
 }
 
-/// If so, the number belongs at the end of the sorted entries. True without entries.
+/// If true, the number is above all sorted entries, and belongs at the end. True without entries.
 fn is_above(entries: &[IndexEntry], number: u32) -> bool
     requires { IsStrictlySortedBy nat_cmp (index_numbers entries.now) }
     ensures { result ≡ true → BelongsAt (index_numbers entries.now) number (length entries.now) }

@@ -24,6 +24,7 @@ impl Model for Numbers {
     ghost invariant = { λ a. IsSorted a.items };
 }
 
+/// The index of the first of sorted numbers that is not below `number`; their count if all are.
 fn first_not_below(items: &[u32], number: u32) -> usize
     requires { IsSorted items.now }
     ensures position { result ≡ first_not_below number items.now }

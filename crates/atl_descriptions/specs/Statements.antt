@@ -26,13 +26,13 @@ comma_list = join_texts (codes ", ")
 abbrev pub parameter : ℕ → List ℕ
 parameter n = codes "?" ++ (48 + n) ∷ []
 
--- for each column name the text `NAME = ?N`, with `N` counted upwards from `n`
+-- for each column name the text `NAME = ?N`, with `N` counted upwards from `n`, and at most 9
 abbrev pub equations : ℕ → List (List ℕ) → List (List ℕ)
 equations n [] = []
 equations n (name ∷ more) = (name ++ codes " = " ++ parameter n) ∷ equations (n + 1) more
 
--- the text of the INSERT of a row, whose values are the parameters in the order of the columns; where a row has its
--- key, the first `key` columns, it sets that row's other columns
+-- the text of the INSERT of a row of at most 9 values, which are the parameters in the order of the columns; where a
+-- row has its key, the first `key` columns, it sets that row's other columns
 abbrev pub upsert : Table → ℕ → List ℕ
 upsert t key =
     codes "INSERT INTO " ++ t.name ++ codes " (" ++ comma_list (column_names t)
@@ -40,7 +40,7 @@ upsert t key =
     ++ codes ") ON CONFLICT (" ++ comma_list (take key (column_names t))
     ++ codes ") DO UPDATE SET " ++ comma_list (equations (key + 1) (drop key (column_names t)))
 
--- the text of the DELETE of the rows whose key, the first `key` columns, is given by the parameters
+-- the text of the DELETE of the rows whose key, the first `key` columns (at most 9), is given by the parameters
 abbrev pub deletion : Table → ℕ → List ℕ
 deletion t key =
     codes "DELETE FROM " ++ t.name ++ codes " WHERE " ++ join_texts (codes " AND ") (equations 1 (take key (column_names t)))

@@ -18,8 +18,8 @@ one_more_is_served g dice count old between new turn h =
     let more : suc count ≡ count + 1 = omega arith in
     subst (λ n. ServesInTurn g dice n old new) more (between, turn, h)
 
--- If `done` requests, fewer than `count`, were served in turn, and the next one ends in a fault, which is Memory, then
--- serving `count` may end in it (`ServesEach`): memory runs out for the last of at most `count` requests.
+-- If `done` requests, fewer than `count`, were served in turn, and the next one ends in a fault, serving `count` may
+-- end in it (`ServesEach`). The fault is Memory, and memory runs out for the last of at most `count` requests.
 pub fault_ends_serving : {S : Type 0} (g : Ghosts S) (dice : Dice) (done count : ℕ) (old between new : ServiceValue S) (fault : ListenFault)
     → done < count → ServesInTurn g dice done old between → ServesConnection g dice between (Err fault) new
     → ServesEach g dice count old (Err fault) new

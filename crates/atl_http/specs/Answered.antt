@@ -25,8 +25,8 @@ refusal_status why = 400
 abbrev pub failure : (status : ℕ) → (name : List ℕ) → (number : ℕ) → Reply
 failure status name number = record { status = status; allow = None; kind = json; body = error_body name number }
 
--- the reply to an answer: status 200 with what was done as JSON, or with the report as plain text; for a refusal its
--- status, name and number, and for a fault 500, its name and the number 0, as JSON
+-- The reply to an answer. It has status 200 with what was done as JSON, or with the report as plain text. For a refusal
+-- it has its status, name and number, and for a fault 500, its name and the number 0, as JSON.
 abbrev pub answer_reply : Answer → Reply
 answer_reply (Joined faction unit) = success json (joined_body faction unit)
 answer_reply (Mailed orders faults) = success json (mailed_body orders faults)

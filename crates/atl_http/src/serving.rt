@@ -41,6 +41,8 @@ pub fn run_request<S: Alter>(
     Ok(service.run(&command))
 }
 
+/// Makes the reply, after running the command of a request that isn't refused. After an AllocError
+/// the command has been run or not.
 fn reply_to<S: Alter>(
     alloc: Global,
     service: &mut Service<S>,

@@ -1,6 +1,6 @@
 -- Laws of the effect of one order that books nothing: what it keeps, above all where something goes from one unit to
 -- another. Further laws say what follows for a phase that carries out such orders one by one. A unit is no worse off
--- (`IsNoWorse`) with the same faction, region, structure, name and guard flag, and no fewer men, no less money, goods
+-- (`IsNoWorse`) with the same faction, region, structure, name and guard flag, and no fewer men, no less money, items
 -- or days. A unit may have (`MayHave`) what is within the limits and of the world, under a name that keeps the name
 -- rule. In the laws an order makes campaign d of c, and `holds` is a condition that orders keep true.
 use Rattle.std.proofs.Common.{◌≡◌, ◌≢◌, ◌==◌, ℕ, ◌+◌, Bool, true, false, Option, Some, None, refl, sym, ap, subst, ◌∙◌, inl, inr, arith}
@@ -129,7 +129,7 @@ module _ (c : CampaignValue) (from to : ℕ) (u v : Unit) (h k : HoldingValue) (
   receiver_still = get-insert_other c.units from to (record u { holding = h }) apart ∙ receiver
 
   -- Campaign d is c with x, which is h, as what the giver holds. Campaign e is d with y, which is k, as what the
-  -- receiver holds. Then e is the campaign `moved`.
+  -- receiver holds. Then e is the campaign `moved`, since `to` isn't `from`.
   pub moved_is : (d e : CampaignValue) (x y : HoldingValue) → x ≡ h → y ≡ k → d ≡ with_holding_at c from x (Some u)
       → (get d.units to ≡ Some v → e ≡ with_holding_at d to y (Some v)) → e ≡ (if to == from then c else moved)
   moved_is d e x y x_is y_is first second =

@@ -49,8 +49,6 @@ use Rattle.atl_instant.specs.declared.form.Forming.{Forming}
 
 -- ---- a campaign in which a unit has formed another
 
--- for `unit_limits_not_reached`: if the test for the unit limit is false of a count u of units and a next number n, u
--- is below 100,000, and n at most 999,999,999
 below_limits : (u n : ℕ) → (nat_le most_units u || nat_lt last_unit n) ≡ false → (u < most_units) × (n ≤ last_unit)
 below_limits u n h = (grind (arith, nat_tests), grind (arith, nat_tests))
 
@@ -271,7 +269,7 @@ pub formed_by_copy : (p : CampaignValue × MonthValue) (ts : List Task)
 formed_by_copy p [] = refl
 formed_by_copy p (t ∷ ts) = formed_by_copy (form_order p t) ts
 
--- the copies of all orders of FORM, carried out one after another as the code does, have the effect of the phase
+-- the copies of all orders of FORM that count, carried out one after another as the code does, have the phase's effect
 pub all_formed : (w : WorldValue) (c : CampaignValue) (m : MonthValue)
     → fold form_by_copy (c, m) (map forming_of (orders_of is_forming ByFaction m.aliases m.readings))
     ≡ form_meaning w c m

@@ -1,6 +1,6 @@
 -- Laws of GIVE and PAY: the campaign stays early, its books balanced, and no unit but the giver is worse off. A unit is
 -- no worse off (`IsNoWorse`) with the same faction, region, structure, name and guard flag, and no fewer men, no less
--- money, goods or days. A unit may have (`MayHave`) what is within the limits and of the world, under a name that keeps
+-- money, items or days. A unit may have (`MayHave`) what is within the limits and of the world, under a name that keeps
 -- the name rule.
 use Rattle.std.proofs.Common.{◌≡◌, ◌≢◌, ◌==◌, ℕ, ◌+◌, ◌-◌, ◌≤◌, ◌<◌, Bool, true, false, cond, not, [], ◌∷◌, length, Option, Some, None, refl, sym, ap, subst, ◌∙◌, arith}
 use Rattle.std.specs.Prelude.{⊤, IfSome, nat_lt}
@@ -34,8 +34,8 @@ use Rattle.atl_instant.specs.declared.give.Gift.{Gift}
 use Rattle.atl_instant.specs.declared.give.Gift.TheVariants.{Item, Money}
 use Rattle.atl_instant.proofs.EffectLaws.{OrderKeeps, StepKeeps, keeps_all, moved_cases, orderly_by, others-moved, steps-moved}
 
--- the giver holds n of the gift, and the receiver has room for n more: what holds where a gift to another unit has no
--- fault
+-- the giver (u) holds n of the gift, and the receiver (v) has room for n more: what holds where a gift to another unit
+-- has no fault
 record CanGive (gift : Gift) (n : ℕ) (u v : Unit) : Type 0 where
   pub enough : n ≤ held_of gift u.holding
   pub room : held_of gift v.holding + n ≤ holding_limit

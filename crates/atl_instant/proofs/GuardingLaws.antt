@@ -1,6 +1,6 @@
 -- Laws of a unit with another name or guard flag, and of GUARD 1: the campaign stays steady, and the guards of each
 -- region stay of one faction. A unit is no worse off (`IsNoWorse`) with the same faction, region, structure, name and
--- guard flag, and no fewer men, no less money, goods or days. A unit may have (`MayHave`) what is within the limits and
+-- guard flag, and no fewer men, no less money, items or days. A unit may have (`MayHave`) what is within the limits and
 -- of the world, under a name that keeps the name rule. In the laws campaign c is before a change, and d after it.
 use Rattle.std.proofs.Common.{◌≡◌, ◌==◌, ℕ, ◌+◌, Bool, true, false, not, ◌&&◌, ◌||◌, List, [], ◌∷◌, Some, None, refl, sym, ap, subst, ◌∙◌, inl, inr, arith}
 use Rattle.std.specs.Prelude.{IfSome, IsTrue, nat_lt}

@@ -1,6 +1,6 @@
 -- Laws of NAME and GUARD 0: the campaign stays early, and a unit is no worse off unless its own faction wrote one of
 -- these orders for it. A unit is no worse off (`IsNoWorse`) with the same faction, region, structure, name and guard
--- flag, and no fewer men, no less money, goods or days.
+-- flag, and no fewer men, no less money, items or days.
 use Rattle.std.proofs.Common.{◌≡◌, ◌≢◌, ◌==◌, ℕ, Bool, true, false, List, Some, None, refl, sym, subst}
 use Rattle.std.specs.Prelude.{IfSome, IsTrue, if◌then◌else◌}
 use Rattle.std.specs.FinMap.{get}

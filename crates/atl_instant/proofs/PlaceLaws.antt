@@ -1,6 +1,6 @@
 -- Laws of LEAVE, ENTER and PROMOTE: the campaign stays early, and a unit is no worse off unless its own faction wrote
 -- one of these orders for it. A unit is no worse off (`IsNoWorse`) with the same faction, region, structure, name and
--- guard flag, and no fewer men, no less money, goods or days.
+-- guard flag, and no fewer men, no less money, items or days.
 use Rattle.std.proofs.Common.{◌≡◌, ◌≢◌, ◌==◌, ℕ, Bool, true, false, not, [], ◌∷◌, Option, Some, None, refl, sym, ap, ◌∙◌, arith}
 use Rattle.std.proofs.lemmas.Bool.{true≢false}
 use Rattle.std.specs.Prelude.{IfSome, if◌then◌else◌}

@@ -1,7 +1,7 @@
 -- Laws of QUIT: units leave, what they had is booked as gone, and structures get other owners; the campaign stays
 -- steady. A unit is no worse off, unless its faction quits by an order for a unit that was its own as the phase began.
 -- A unit is no worse off (`IsNoWorse`) with the same faction, region, structure, name and guard flag, and no fewer men,
--- no less money, goods or days. In the laws e is an entry of the books, s and t are things, and h is what a unit holds.
+-- no less money, items or days. In the laws e is an entry of the books, s and t are things, and h is what a unit holds.
 -- `es` and `xs` list items with their amounts, and i is an index within `xs`.
 use Rattle.std.proofs.Common.{◌≡◌, ◌≢◌, ◌==◌, ℕ, ◌+◌, ◌*◌, ◌≤◌, ◌<◌, not, Bool, true, false, cond, List, [], ◌∷◌, length, drop, get_or, Option, Some, None, refl, sym, ap, subst, ◌∙◌, inl, inr, arith}
 use Rattle.std.specs.Prelude.{ℤ, pos, neg_ℤ, ◌+ℤ◌, IfSome, fold, unwrap_or, if◌then◌else◌}
@@ -383,7 +383,6 @@ module _ (w : WorldValue) (c : CampaignValue) (n : ℕ) (u : Unit) (is : get c.u
           → pos a ≡ y
       total_stays_booked a h b d o z y e f g k l = omega (arith, ints, e, f, g, k, l)
 
-  -- no amount of the books moves further than its remaining bound falls as the unit leaves
   uses_bound : (e : BooksEntry) (t : Thing)
       → UsesBound (quit_remaining c e t) (quit_remaining after_leave e t) (amount_in c.books e t) (amount_in after_leave.books e t)
   uses_bound e t =

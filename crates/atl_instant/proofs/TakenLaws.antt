@@ -31,7 +31,6 @@ use Rattle.atl_instant.specs.Transfer.{is_transferring, transfer_effect, transfe
 
 -- ---- LEAVE, ENTER and PROMOTE
 
--- the phase passes over no order of LEAVE, ENTER or PROMOTE
 place_takes : TakesThose place_step is_placing all_orders
 place_takes w a t of_phase fit = by_verb t.order_value.verb t.order_value.operands of_phase fit.shape
   where
@@ -51,7 +50,6 @@ place_gives = gives_by_orders place_step is_placing all_orders place_takes
 
 -- ---- GIVE and PAY
 
--- the phase passes over no order of GIVE or PAY
 give_takes : TakesThose give_step is_giving all_orders
 give_takes w a t of_phase fit = by_verb t.order_value.verb t.order_value.operands of_phase fit.shape
   where
@@ -69,7 +67,6 @@ give_gives = gives_by_orders give_step is_giving all_orders give_takes
 
 -- ---- TRANSFER
 
--- the phase passes over no order of TRANSFER
 transfer_takes : TakesThose transfer_step is_transferring all_orders
 transfer_takes w a t of_phase fit = by_verb t.order_value.verb t.order_value.operands of_phase fit.shape
   where
@@ -85,7 +82,6 @@ transfer_gives = gives_by_orders transfer_step is_transferring all_orders transf
 
 -- ---- QUIT
 
--- the phase passes over no order of QUIT
 quit_takes : TakesThose quit_step is_quitting all_orders
 quit_takes w a t of_phase fit = by_verb t.order_value.verb t.order_value.operands of_phase fit.shape
   where
@@ -132,7 +128,6 @@ name_gives = gives_by_orders name_step is_naming (λ t. names t.order_value.verb
 guard_takes : TakesThose guard_step is_guarding (λ t. sets_guard t.order_value.operands)
 guard_takes w a t of_phase fit = by_operands t.order_value.operands
   where
-    -- operands have an effect, if they are those of GUARD 1
     by_operands : (o : OperandsValue) → is_some (guard_effect t.unit o) ≡ sets_guard o
     by_operands (operands.Flag true) = refl
     by_operands (operands.Flag false) = refl
@@ -154,8 +149,8 @@ pub form_shape : (v : Verb) (o : OperandsValue) → is_forming v ≡ true → Fi
 form_shape verbs.Form o of_phase fits = fits
 form_shape v o of_phase fits = cc
 
--- if the mailings can be read with the world, the phase of FORM gives one event to each order of FORM that counts, and
--- none to any other order, all read with the aliases as the phase begins
+-- If the mailings can be read with the world, the phase of FORM gives one event to an order t of a mailing (`there`),
+-- if t is a FORM and counts, and else none. All is read with the aliases as the phase begins.
 pub form_gives : (w : WorldValue) (c : CampaignValue) (m : MonthValue) (readings : FinMap nat_cmp Reading)
     → m.readings ≡ readings → AreFit w readings → (t : Task) (there : IsInMailing m.aliases readings t)
     → reports_at t.faction t.line (form_meaning w c m).1 ≡ reports_at t.faction t.line m ++ report_if (is_forming t.order_value.verb && order_counts (tasks_of m.aliases t.faction there.reading) t) t

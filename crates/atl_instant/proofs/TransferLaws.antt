@@ -1,6 +1,6 @@
 -- Laws of TRANSFER: the campaign stays early, its books balanced, and no unit but the sender is worse off. A unit is no
 -- worse off (`IsNoWorse`) with the same faction, region, structure, name and guard flag, and no fewer men, no less
--- money, goods or days. A unit may have (`MayHave`) what is within the limits and of the world, under a name that keeps
+-- money, items or days. A unit may have (`MayHave`) what is within the limits and of the world, under a name that keeps
 -- the name rule.
 use Rattle.std.proofs.Common.{◌≡◌, ◌≢◌, ◌==◌, ℕ, ◌+◌, ◌-◌, ◌*◌, ◌/◌, ◌≤◌, ◌<◌, Bool, true, false, not, [], ◌∷◌, ◌++◌, ◌⊎◌, length, Option, Some, None, refl, sym, subst, inl, inr, arith}
 use Rattle.std.specs.Prelude.{IfSome, nat_lt, unwrap_or}
@@ -38,8 +38,8 @@ use Rattle.atl_instant.proofs.AmountsForLaws.{each_said}
 use Rattle.atl_instant.proofs.DaysLaws.{days_go_with_men, none_go}
 use Rattle.atl_instant.proofs.EffectLaws.{OrderKeeps, StepKeeps, keeps_all, moved_cases, orderly_by, others-moved, steps-moved}
 
--- sender and receiver are of one faction, the sender has n men, and the receiver has room for n more:
--- what holds where a transfer to another unit has no fault
+-- sender (u) and receiver (v) are of one faction, the sender has n men, and the receiver room for n more: what holds
+-- where a transfer to another unit has no fault
 record CanSend (n : ℕ) (u v : Unit) : Type 0 where
   pub own : v.faction ≡ u.faction
   pub enough : n ≤ u.holding.men
@@ -61,7 +61,7 @@ can_send n u v is =
 
 -- ---- days
 
--- if each skill that a map lists has from 1 to `most` days, every skill has at most `most`; one that isn't listed has 0
+-- if each skill that a map `all` lists has from 1 to `most` days, every skill has at most `most`; one not listed has 0
 pub days_within : (all : FinMap nat_cmp ℕ) (most skill : ℕ) → Every (λ s days. (1 ≤ days) × (days ≤ most)) all
     → amount_of all skill ≤ most
 days_within all most skill each = by_option (get all skill) refl

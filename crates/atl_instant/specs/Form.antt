@@ -82,7 +82,7 @@ with_form_result m t (c, outcome) = (
 abbrev pub form_order : CampaignValue × MonthValue → Task → CampaignValue × MonthValue
 form_order (c, m) t = with_form_result m t (form_by c t.faction t.unit)
 
--- the effect of the phase: all orders of FORM, carried out by faction and then by line
+-- the effect of the phase: the orders of FORM that count, carried out by faction and then by line
 unfoldable pub form_meaning : Meaning
 form_meaning w c m = fold form_order (c, m) (orders_of is_forming ByFaction m.aliases m.readings)
 

@@ -1,5 +1,5 @@
 -- GIVE and PAY: a unit gives items or money to another. See docs/RULES.md, "Giving". A unit is no worse off
--- (`IsNoWorse`) with the same faction, region, structure, name and guard flag, and no fewer men, no less money, goods
+-- (`IsNoWorse`) with the same faction, region, structure, name and guard flag, and no fewer men, no less money, items
 -- or days.
 use Rattle.std.specs.Prelude.{ℕ, ◌+◌, ◌-◌, ◌==◌, ◌&&◌, not, nat_lt, Bool, true, false, [], ◌∷◌, Option, Some, None, if◌then◌else◌}
 use Rattle.std.specs.FinMap.{get}

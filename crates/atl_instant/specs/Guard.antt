@@ -1,5 +1,5 @@
 -- GUARD 1: a unit begins to guard its region. See docs/RULES.md, "Guarding". A unit is no worse off (`IsNoWorse`) with
--- the same faction, region, structure, name and guard flag, and no fewer men, no less money, goods or days.
+-- the same faction, region, structure, name and guard flag, and no fewer men, no less money, items or days.
 use Rattle.std.specs.Prelude.{◌≡◌, ℕ, ◌==◌, ◌&&◌, not, Bool, true, false, [], ◌∷◌, Option, Some, None}
 use Rattle.std.specs.List.{list_any}
 use Rattle.std.specs.FinMap.{get}

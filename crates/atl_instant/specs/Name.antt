@@ -1,6 +1,6 @@
 -- NAME and GUARD 0: units give names, and stop guarding. See docs/RULES.md, "Name". A unit is no worse off
--- (`IsNoWorse`) with the same faction, region, structure, name and guard flag, and no fewer men, no less money, goods
--- or days.
+-- (`IsNoWorse`) with the same faction, region, structure, name and guard flag, and no fewer men, no less money, items
+-- or days. A name is a list of its bytes.
 use Rattle.std.specs.Prelude.{◌≢◌, ℕ, ◌==◌, Bool, true, false, not, List, [], ◌∷◌, Option, Some, None, if◌then◌else◌}
 use Rattle.std.specs.FinMap.{get}
 use Rattle.atl_world.specs.Worlds.{WorldValue}

@@ -1,6 +1,6 @@
 -- LEAVE, ENTER and PROMOTE: units leave structures, enter them, and hand them over to other units. See docs/RULES.md,
 -- "Place". A unit is no worse off (`IsNoWorse`) with the same faction, region, structure, name and guard flag, and no
--- fewer men, no less money, goods or days.
+-- fewer men, no less money, items or days.
 use Rattle.std.specs.Prelude.{ℕ, ◌==◌, Bool, true, false, not, [], ◌∷◌, Option, Some, None, if◌then◌else◌}
 use Rattle.std.specs.FinMap.{get}
 use Rattle.atl_world.specs.Worlds.{WorldValue}

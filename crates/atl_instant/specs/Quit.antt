@@ -1,5 +1,5 @@
 -- QUIT: a faction leaves the campaign with all its units. See docs/RULES.md, "Quitting". A unit is no worse off
--- (`IsNoWorse`) with the same faction, region, structure, name and guard flag, and no fewer men, no less money, goods
+-- (`IsNoWorse`) with the same faction, region, structure, name and guard flag, and no fewer men, no less money, items
 -- or days.
 use Rattle.std.specs.Prelude.{◌≡◌, ℕ, pos, neg_ℤ, ◌==◌, not, Bool, true, false, [], ◌∷◌, fold, Option, Some, None, if◌then◌else◌}
 use Rattle.std.specs.FinMap.{entries, get}
@@ -81,7 +81,7 @@ quit_effect other = None
 abbrev pub quit_step : OrderMeaning
 quit_step w aliases t = quit_effect t.order_value.operands
 
--- the effect of the phase: all orders of QUIT, carried out one by one
+-- the effect of the phase: the orders of QUIT that count, carried out one by one
 abbrev pub quit_meaning : Meaning
 quit_meaning = meaning_by_orders quit_step is_quitting
 

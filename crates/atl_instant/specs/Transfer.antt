@@ -1,5 +1,5 @@
 -- TRANSFER: men move from one unit to another. See docs/RULES.md, "Transferring". A unit is no worse off (`IsNoWorse`)
--- with the same faction, region, structure, name and guard flag, and no fewer men, no less money, goods or days.
+-- with the same faction, region, structure, name and guard flag, and no fewer men, no less money, items or days.
 use Rattle.std.specs.Prelude.{◌≡◌, ℕ, ◌+◌, ◌-◌, ◌*◌, ◌/◌, ◌==◌, ◌&&◌, not, nat_lt, Bool, true, false, [], ◌∷◌, ◌++◌, Option, Some, None, if◌then◌else◌}
 use Rattle.std.specs.FinMap.{get, keys}
 use Rattle.atl_lines.specs.declared.order.Operands.TheVariants as operands
@@ -78,7 +78,7 @@ transfer_fault n itself u (Some v) =
     ∷ (not itself && nat_lt men_limit (v.holding.men + n), NoRoom)
     ∷ [])
 
--- The campaign after n men went from unit `from` to unit `to`, given as they are before.
+-- The campaign after n men went from unit `from` to unit `to`, given as they are before; one that has fewer keeps none.
 -- Nothing changes if both are one unit, or one of them isn't there (None).
 abbrev pub after_transfer : CampaignValue → (from to n : ℕ) → Option Unit → Option Unit → CampaignValue
 after_transfer c from to n (Some u) (Some v) =

@@ -1,4 +1,5 @@
-//! FORM: units form new units. See docs/RULES.md, "Form".
+//! FORM: units form new units. What changes is marked, and no mark is lost. Without memory campaign
+//! and month may be changed in part. See docs/RULES.md, "Form".
 ghost use Rattle.std.specs.Prelude.{◌≡◌, ◌≤◌, IfOk, None, OnOk, map as each};
 ghost use Rattle.std.specs.FinMap as map;
 ghost use Rattle.atl_world.specs.Worlds.{WorldValue};
@@ -25,7 +26,7 @@ use atl_world::{Numbered, Text, World};
 use std::alloc::{AllocError, Global};
 
 /// The phase of FORM: units form new units of their faction, in their region and structure, without
-/// men or goods. See docs/RULES.md, "Form".
+/// men, money or items. See docs/RULES.md, "Form".
 #[derive(Drop, Clone, Copy)]
 pub struct FormPhase;
 
@@ -62,6 +63,8 @@ fn new_unit(
     })
 }
 
+/// Adds a unit of this faction in region and structure of unit `parent`, and returns its number,
+/// the next one. Before it no unit has this number, which is at most LAST_UNIT.
 fn add_formed_unit(
     alloc: Global,
     campaign: &mut Campaign,
@@ -82,6 +85,7 @@ fn add_formed_unit(
     campaign.begin_unit(unit)
 }
 
+/// The alias that an order with operands of FORM's form gives.
 fn alias_of(order: PhaseOrder<'_>) -> u32
     requires { shape_of (task_of order).order_value.operands ≡ (row_of Verb.Form).shape }
     ensures { result ≡ alias_of (task_of order.entry).order_value.operands }
@@ -103,6 +107,7 @@ pub(crate) struct Forming {
     alias: u32,
 }
 
+/// The copy of an order with operands of FORM's form.
 fn forming_of(order: PhaseOrder<'_>) -> Forming
     requires { shape_of (task_of order).order_value.operands ≡ (row_of Verb.Form).shape }
     ensures { result ≡ forming_of (task_of order.entry) }
@@ -116,7 +121,7 @@ fn forming_of(order: PhaseOrder<'_>) -> Forming
     }
 }
 
-/// Copies of all orders of FORM that count, by faction and line.
+/// Copies of all orders of FORM that count, by faction and line. They can be read with some world.
 fn formings(alloc: Global, month: &Month) -> Result<Vec<Forming>, AllocError>
     requires { (w : WorldValue) × AreFit w month.now.readings }
     ensures { IfOk result (λ list. list.items
@@ -157,6 +162,7 @@ fn form(
     }
 }
 
+/// Carries out an order (`form`), and adds its event. Before it no unit has the next number.
 fn form_one(
     alloc: Global,
     campaign: &mut Campaign,

@@ -1,6 +1,6 @@
-//! GIVE and PAY: a unit gives items or money to another. See docs/RULES.md, "Giving". A unit is no
-//! worse off (`IsNoWorse`) with the same faction, region, structure, name and guard flag, and no
-//! fewer men, no less money, goods or days.
+//! GIVE and PAY: a unit gives items or money to another. See docs/RULES.md, "Giving". What changes
+//! is marked, and no mark is lost. Without memory the campaign may be changed in part. Such an
+//! order for a unit that isn't there, or is another faction's, is NotYours and changes nothing.
 ghost use Rattle.std.specs.Prelude.{◌≡◌, ◌≢◌, ◌≤◌, ◌+◌, IfOk, OnOk, Some, true};
 ghost use Rattle.std.specs.FinMap as map;
 ghost use Rattle.std.specs.Option.{option_copied};
@@ -63,6 +63,7 @@ fn give_fault(
     (!itself && total > u64::from(HOLDING_LIMIT)).then_some(EventFault::NoRoom)
 }
 
+/// Sets how much of the gift unit `number`, if it is there, holds, to at most HOLDING_LIMIT.
 fn set_held(campaign: &mut Campaign, number: u32, gift: Gift, amount: u32) -> Result<(), AllocError>
     requires { amount ≤ holding_limit }
     ensures { OnOk result (ChangesHolding campaign.old campaign.new number
@@ -78,7 +79,7 @@ fn set_held(campaign: &mut Campaign, number: u32, gift: Gift, amount: u32) -> Re
 }
 
 /// Moves the amount from one unit to another, which has room for it; the giver has as much. Nothing
-/// changes where one of the two isn't there.
+/// changes where one of the two isn't there. Before, all that units hold is in its limits.
 fn hand_over(
     campaign: &mut Campaign,
     from: u32,
@@ -106,6 +107,7 @@ fn hand_over(
     set_held(campaign, to, gift, more)
 }
 
+/// Carries out an order that gives the amount to unit `to`. All that units hold is in its limits.
 #[tactic(auto, unfolding(crate::specs::Give::give))]
 fn give(
     campaign: &mut Campaign,

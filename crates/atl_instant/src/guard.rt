@@ -1,5 +1,5 @@
-//! GUARD 1: a unit begins to guard its region. `holders` says which faction guards each region. See
-//! docs/RULES.md, "Guarding".
+//! GUARD 1: a unit begins to guard its region. Before and after each order, `holders` says which
+//! faction guards each region. What changes is marked. See docs/RULES.md, "Guarding".
 ghost use Rattle.std.specs.Prelude.{◌≡◌, IfOk, OnOk};
 ghost use Rattle.atl_orders.specs.Bounds.{shape_of};
 ghost use Rattle.atl_world.specs.Verbs.{row_of};
@@ -64,7 +64,7 @@ fn guard(
     Ok(Outcome::Done(0))
 }
 
-/// Carries out GUARD 1; None for GUARD 0, which is passed over.
+/// Carries out GUARD 1; None for GUARD 0, which is passed over. The operands are of GUARD's form.
 fn carry_out(
     campaign: &mut Campaign,
     holders: &mut RegionGuards,
@@ -86,7 +86,7 @@ fn carry_out(
     }
 }
 
-/// Carries out an order, and adds its event to `events`; GUARD 0 is passed over without one.
+/// Carries out an order with operands of GUARD's form, and adds its event; GUARD 0 has none.
 fn guard_one(
     campaign: &mut Campaign,
     holders: &mut RegionGuards,

@@ -1,6 +1,6 @@
-//! NAME and GUARD 0: units give names, and stop guarding. See docs/RULES.md, "Name". A unit is no
-//! worse off (`IsNoWorse`) with the same faction, region, structure, name and guard flag, and no
-//! fewer men, no less money, goods or days.
+//! NAME and GUARD 0: units give names, and stop guarding. See docs/RULES.md, "Name". What changes
+//! is marked, and no mark is lost. Such an order for a unit that isn't there, or is another
+//! faction's, is NotYours and changes nothing.
 ghost use Rattle.std.specs.Prelude.{◌≡◌, IfOk, IsTrue, OnOk};
 ghost use Rattle.std.specs.FinMap as map;
 ghost use Rattle.atl_world.specs.Names.{name_ok};
@@ -21,6 +21,7 @@ use std::alloc::{AllocError, Global};
 #[derive(Drop, Clone, Copy)]
 pub struct NamePhase;
 
+/// The name at a place of the mailing's text; it keeps the name rule.
 fn name_of(alloc: Global, mailing: &Mailing, span: Span) -> Result<Text, AllocError>
     requires { IsTrue (name_ok (name_in mailing.now.text span)) }
     ensures { IfOk result (λ name. name ≡ name_in mailing.now.text span) }
@@ -113,6 +114,7 @@ fn name(
     Outcome::Done(0)
 }
 
+/// Carries out NAME with the name at `span` of the mailing's text, which keeps the name rule.
 fn give_name(
     alloc: Global,
     world: &World,

@@ -1,6 +1,6 @@
 //! LEAVE, ENTER and PROMOTE: units leave structures, enter them, and hand them over to other units.
-//! See docs/RULES.md, "Place". A unit is no worse off (`IsNoWorse`) with the same faction, region,
-//! structure, name and guard flag, and no fewer men, no less money, goods or days.
+//! See docs/RULES.md, "Place". What changes is marked, and no mark is lost. Such an order for a
+//! unit that isn't there, or is another faction's, is NotYours and changes nothing.
 ghost use Rattle.std.specs.Prelude.{◌≡◌, IfOk, OnOk};
 ghost use Rattle.std.specs.FinMap as map;
 ghost use Rattle.atl_campaign.specs.Covers.{MarksChanges};

@@ -1,6 +1,6 @@
-//! QUIT: a faction leaves the campaign with all its units. See docs/RULES.md, "Quitting". A unit is
-//! no worse off (`IsNoWorse`) with the same faction, region, structure, name and guard flag, and no
-//! fewer men, no less money, goods or days.
+//! QUIT: a faction leaves the campaign with all its units. See docs/RULES.md, "Quitting". What
+//! changes is marked, and no mark is lost. Without memory the campaign may be changed in part. Such
+//! an order for a unit that isn't there, or is another faction's, is NotYours and changes nothing.
 ghost use Rattle.std.specs.Prelude.{◌≡◌, ◌<◌, IfOk, OnOk, fold, length, true};
 ghost use Rattle.atl_records.specs.Books.{amount_in, thing_index};
 ghost use Rattle.atl_campaign.specs.Covers.{MarksChanges};
@@ -38,6 +38,8 @@ fn loss_entry(thing: Thing) -> BooksEntry
     }
 }
 
+/// Books an amount of a thing as gone: men as left, money and items as lost. The books have the
+/// thing, and room for the amount.
 fn book_loss(campaign: &mut Campaign, thing: Thing, amount: u32)
     requires there { thing_index thing < campaign.old.value.books.things }
     requires room { HasRoom amount (amount_in campaign.old.value.books (loss_entry thing) thing) }
@@ -47,6 +49,7 @@ fn book_loss(campaign: &mut Campaign, thing: Thing, amount: u32)
     book_taken(campaign, loss_entry(thing), thing, amount);
 }
 
+/// Books these items, which are of the world, as lost. The books have them, and room for them all.
 fn book_items(world: &World, campaign: &mut Campaign, items: &[(u16, u32)])
     requires things { campaign.old.value.books.things ≡ thing_count world.now }
     requires known { EachEntry (λ i amount. i < length world.now.items) items.now }
@@ -59,6 +62,8 @@ fn book_items(world: &World, campaign: &mut Campaign, items: &[(u16, u32)])
     }
 }
 
+/// Books men, money and items as gone. The items are of the world, whose things the books have, and
+/// the books have room for all.
 fn book_off(world: &World, campaign: &mut Campaign, men: u32, money: u32, items: &[(u16, u32)])
     requires things { campaign.old.value.books.things ≡ thing_count world.now }
     requires known { EachEntry (λ i amount. i < length world.now.items) items.now }
@@ -75,7 +80,8 @@ fn book_off(world: &World, campaign: &mut Campaign, men: u32, money: u32, items:
     book_items(world, campaign, items);
 }
 
-/// Books all that a unit has as gone, and removes it. Where it isn't there, nothing changes.
+/// Books all that a unit has as gone, and removes it. Where it isn't there, nothing changes. Before
+/// it the campaign is steady, and the books have room for the loss of all that units hold.
 #[tactic(auto, unfolding(crate::specs::Quit::after_leaving))]
 fn leave(
     alloc: Global,
@@ -99,6 +105,7 @@ fn leave(
     Ok(())
 }
 
+/// Lets these units leave one by one, in a steady campaign whose books have room for all losses.
 fn leave_all(
     alloc: Global,
     world: &World,
@@ -117,6 +124,7 @@ fn leave_all(
     Ok(())
 }
 
+/// Carries out QUIT with this number, in a steady campaign whose books have room for all losses.
 #[tactic(auto, unfolding(crate::specs::Quit::quit))]
 fn quit(
     alloc: Global,

@@ -45,7 +45,7 @@ impl RegionGuards {
         Ok(holders)
     }
 
-    /// Enters the unit's faction under its region; nothing changes if the unit doesn't guard.
+    /// If the unit guards, enters its faction under its region, in place of any; else does nothing.
     fn note(&mut self, unit: &Unit) -> Result<(), AllocError>
         ensures { OnOk result (self.new ≡ with_guard_of self.old unit.now) }
     {

@@ -1,6 +1,6 @@
-//! TRANSFER: men move from one unit to another. See docs/RULES.md, "Transferring". A unit is no
-//! worse off (`IsNoWorse`) with the same faction, region, structure, name and guard flag, and no
-//! fewer men, no less money, goods or days.
+//! TRANSFER: men move from one unit to another. See docs/RULES.md, "Transferring". What changes is
+//! marked, and no mark is lost. Without memory the campaign may be changed in part. Such an order
+//! for a unit that isn't there, or is another faction's, is NotYours and changes nothing.
 ghost use Rattle.std.specs.Prelude.{◌≡◌, ◌≢◌, ◌≤◌, ◌+◌, ◌*◌, IfOk, OnOk, Some, true};
 ghost use Rattle.std.specs.FinMap as map;
 ghost use Rattle.std.specs.Option.{option_copied};
@@ -26,7 +26,8 @@ use std::alloc::{AllocError, Global};
 #[derive(Drop, Clone, Copy)]
 pub struct TransferPhase;
 
-/// The days of a skill that go with `going` of `men` men who have `days` together, rounded down.
+/// The days of a skill that go with `going` of `men` men who have `days` together, rounded down: at
+/// most `days`. There is at least one man.
 fn days_going(going: u32, men: u32, days: u32) -> u32
     requires some { 1 ≤ men }
     requires fewer { going ≤ men }
@@ -36,6 +37,8 @@ fn days_going(going: u32, men: u32, days: u32) -> u32
     (u64::from(days) * u64::from(going) / u64::from(men)) as u32
 }
 
+/// Each skill of a unit, with the days that stay as `going` of its men go. It has as many men, and
+/// its days are in their limits.
 fn days_left(alloc: Global, going: u32, holding: &Holding) -> Result<Vec<(u32, u32)>, AllocError>
     requires fewer { going ≤ holding.now.men }
     requires days { Every (λ s days. (1 ≤ days) × (days ≤ most_days * holding.now.men))
@@ -50,8 +53,8 @@ fn days_left(alloc: Global, going: u32, holding: &Holding) -> Result<Vec<(u32, u
     Ok(list)
 }
 
-/// Each skill of the sender, with the days that the receiver then has of it. The receiver's other
-/// skills aren't listed.
+/// Each skill of the sender, with the days that the receiver then has of it; no others. The sender
+/// has the men, the receiver has room for them, and both have their days in the limits.
 fn days_raised(
     alloc: Global,
     going: u32,
@@ -77,7 +80,7 @@ fn days_raised(
 }
 
 /// Moves men with their part of the days to another unit, which has room for them; the sender has
-/// as many. Nothing changes where one of the two isn't there.
+/// as many. Nothing changes where one of the two isn't there. All days are in their limits.
 fn send(
     alloc: Global,
     campaign: &mut Campaign,
@@ -131,6 +134,7 @@ fn transfer_fault(
     (!itself && total > u64::from(MEN_LIMIT)).then_some(EventFault::NoRoom)
 }
 
+/// Carries out an order that sends men to unit `to`. All days are in their limits.
 #[tactic(auto, unfolding(crate::specs::Transfer::transfer))]
 fn transfer(
     alloc: Global,

@@ -1,4 +1,4 @@
--- The set of the aliases that the FORM lines of a mailing have given so far, as a test of each number.
+-- The set of the aliases that the FORM lines of a mailing have given new units so far, as a test of each number.
 use Rattle.std.specs.Prelude.{ℕ, Bool, false, ◌||◌, ◌==◌}
 
 -- the empty set of aliases, as a test that no number passes

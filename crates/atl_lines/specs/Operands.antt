@@ -1,6 +1,7 @@
 -- How the words after a keyword are read. NEW and the directions are read in any case (`is_word`).
 -- See docs/RULES.md, "Orders" and "Names in orders". MissingWord comes where the line has no such word; the other fault
--- that a comment names is that of a word that isn't as said. Of a unit, BadAlias is for the word after NEW.
+-- that a comment names is that of a word that isn't as said. Of a unit, BadAlias is for the word after NEW: the alias,
+-- by which the mailing names a new unit.
 use Rattle.std.specs.Prelude.{ℕ, List, [], ◌∷◌, codes, Option, Some, None, Result, Ok, Err, ◌==◌, if◌then◌else◌}
 use Rattle.atl_words.specs.Limits.{last_alias, most_number}
 use Rattle.atl_world.specs.Worlds.{WorldValue}
@@ -99,8 +100,7 @@ new_unit_ref w = or_fault BadAlias (not_zero (number_of last_alias w.bytes)) >>=
 abbrev pub and_then_units : Result UnitRef LineFault → Result (List UnitRef) LineFault → Result (List UnitRef) LineFault
 and_then_units unit units = unit >>= λ u. units >>= λ us. Ok (u ∷ us)
 
--- the units that all words up to the line's end name, which may be none; else the first fault, MissingWord for a NEW
--- that is the last word
+-- the units that all words up to the line's end name, none or more; else the first fault, MissingWord for a last NEW
 unfoldable pub units_of : List WordText → Result (List UnitRef) LineFault
 units_of [] = Ok []
 units_of (w ∷ []) = if is_word (codes "NEW") w then Err MissingWord else and_then_units (unit_by_number w) (Ok [])

@@ -29,8 +29,7 @@ OrderValue = Order (List ℕ)
 abbrev pub OperandsValue : Type 0
 OperandsValue = Operands (List ℕ)
 
--- the operands of a verb that takes a flag, read from the word after it: false for 0, true for 1; else MissingWord
--- without a word, or BadNumber
+-- the operands of a verb with a flag, by the word after it: false for 0, true for 1; else MissingWord or BadNumber
 abbrev pub read_flag : List WordText → Result OperandsValue LineFault
 read_flag ws = do
   w ← word_at ws

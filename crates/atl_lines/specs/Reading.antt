@@ -1,5 +1,7 @@
 -- The effect of one line of a mailing. See docs/RULES.md, "Reading a mailing". Where a comment says nothing else,
--- `state` is the reader's state before the line, and `given` says which aliases earlier FORM lines gave.
+-- `state` is the reader's state before the line: which unit is named, and which block is open. `given` says which
+-- aliases earlier FORM lines gave: an alias is the number by which a mailing names a new unit. A block is what FORM
+-- opens, up to END or UNIT. Its orders are for the new unit; those of a skipped block, after a faulty FORM, for nobody.
 use Rattle.std.specs.Prelude.{ℕ, Bool, ◌&&◌, ◌||◌, List, [], ◌∷◌, codes, Option, Some, None, Result, Ok, Err, nat_le, ◌==◌, if◌then◌else◌}
 use Rattle.std.specs.List.{list_all}
 use Rattle.std.specs.Option.{option_map}
@@ -40,8 +42,7 @@ pub data Effect : Type 0 where
   faulty : LineFault → Effect
   says : UnitRef → OrderValue → Effect
 
--- the step of a line: what reading it gives, which is its effect, the reader's state after it (`state`), and the
--- aliases given so far
+-- the step of a line: its effect, the reader's state after it (`state`), and which aliases were given so far (`given`)
 pub record LineStep : Type 0 where
   pub effect : Effect
   pub state : ReaderState
@@ -51,8 +52,8 @@ pub record LineStep : Type 0 where
 abbrev pub step : Effect → ReaderState → (ℕ → Bool) → LineStep
 step effect state given = record { effect = effect; state = state; given = given }
 
--- the unit that an order is for, in a state of the reader: the unit that is named, or in an open block the new unit by
--- its alias; None if no unit is named, or in a skipped block
+-- The unit that an order is for, in a state of the reader: the unit that is named, or in an open block the new unit by
+-- its alias. It is None if no unit is named, or in a skipped block.
 abbrev pub target : ReaderState → Option UnitRef
 target Nowhere = None
 target (At n) = Some (Number n)
@@ -64,14 +65,14 @@ abbrev pub state_naming_unit : Option ℕ → ReaderState
 state_naming_unit None = Nowhere
 state_naming_unit (Some n) = At n
 
--- the step of a UNIT line, by the number read after UNIT or its fault: an open block ends, and further orders are for
--- the unit of this number; with a fault, which is the line's, they are for no unit
+-- The step of a UNIT line, by the number read after UNIT or its fault. An open block ends, and further orders are for
+-- the unit of this number; with a fault, which is the line's, they are for no unit.
 abbrev pub unit_step : (ℕ → Bool) → Result (ℕ × List WordText) LineFault → LineStep
 unit_step given (Ok n) = step nothing (At n.0) given
 unit_step given (Err fault) = step (faulty fault) Nowhere given
 
--- the step of an END line: the open block ends, and the unit that was named before it, if one was, is named again; if
--- no block is open, the fault is EndAlone, and the state stays
+-- The step of an END line: the open block ends, and the unit that was named before it, if one was, is named again. If
+-- no block is open, the fault is EndAlone, and the state stays.
 abbrev pub end_step : ReaderState → (ℕ → Bool) → LineStep
 end_step Nowhere given = step (faulty EndAlone) Nowhere given
 end_step (At n) given = step (faulty EndAlone) (At n) given

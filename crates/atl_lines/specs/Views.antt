@@ -35,7 +35,6 @@ effect_of text outcomes.Nothing = nothing
 effect_of text (outcomes.Faulty fault) = faulty fault
 effect_of text (outcomes.Says unit order) = says unit (order_value text order)
 
--- the step of a line of `text` by r, which the code returns for it (its result and the next state), and by the aliases
--- given so far
+-- the step of a line of `text`, by r, what the code returns (its result and the next state), and by the given aliases
 abbrev pub step_of : List ℕ → LineResult × ReaderState → (ℕ → Bool) → LineStep
 step_of text r given = step (effect_of text r.0) r.1 given

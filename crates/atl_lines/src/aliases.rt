@@ -6,6 +6,7 @@ ghost use Rattle.atl_words.specs.Limits.{last_alias};
 use atl_words::LAST_ALIAS;
 use std::alloc::{AllocError, Global};
 
+/// A flag for each number below `count`, none of them set. AllocError comes without memory.
 fn no_aliases(alloc: Global, count: usize) -> Result<Vec<bool>, AllocError>
     ensures len { IfOk result (λ flags. vec_len flags ≡ count) }
     ensures clear { IfOk result (λ flags. (k : ℕ) → slice_index_or flags.items k false ≡ false) }

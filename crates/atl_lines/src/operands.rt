@@ -46,8 +46,7 @@ pub fn number_at(line: &[u8]) -> Result<(u32, &[u8]), LineFault>
     count_at(line, MOST_NUMBER, LineFault::BadNumber)
 }
 
-/// The next word as an alias from 1 to 9,999, and the rest of the line; else MissingWord or
-/// BadAlias.
+/// The next word as an alias from 1 to 9,999, and the line's rest; else MissingWord or BadAlias.
 pub fn alias_at(line: &[u8]) -> Result<(u32, &[u8]), LineFault>
     ensures alias { Agrees (λ x. (x.0, words x.1.now)) result (alias_at (words line.now)) }
     ensures within { IfOk result (λ x. x.0 ≤ last_alias) }

@@ -1,5 +1,5 @@
 //! Reads the words after a verb as the order table says, or gives their first fault. `cursor` is at
-//! these words (`IsCursor`). See docs/RULES.md, "Orders".
+//! these words (`IsCursor`). AllocError comes without memory. See docs/RULES.md, "Orders".
 ghost use Rattle.std.specs.Prelude.{◌≡◌, IfOk};
 ghost use Rattle.atl_words.specs.Words.{words};
 ghost use Rattle.atl_lines.specs.Views.{Agrees};

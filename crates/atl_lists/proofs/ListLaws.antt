@@ -37,8 +37,7 @@ each_list_after_put lists k xs P here there r =
     ] refl)
 
 module _ (belongs_to : Unit → ℕ) where
-  -- the lists by a key stay those of the units (AreLists) when unit u comes under a new number k, and k is put into the
-  -- list of u's key
+  -- the lists by a key stay those of the units (AreLists) when u comes, and its new number k is put into its key's list
   pub AreLists-added : (units : FinMap nat_cmp Unit) (lists : FinMap nat_cmp (List ℕ)) (k : ℕ) (u : Unit)
       → get units k ≡ None → AreLists belongs_to units lists
       → AreLists belongs_to (insert units k u) (insert lists (belongs_to u) (put_number k (list_of lists (belongs_to u))))
@@ -64,8 +63,7 @@ module _ (belongs_to : Unit → ℕ) where
       (ap (take_number k) (old own ∙ numbers_where-insert_new (λ v. belongs_to v == own) units k u fresh (same_number own)) ∙ taken_put k _)
       (λ r ne. old r ∙ numbers_where-insert_other (λ v. belongs_to v == r) units k u fresh (other_number own r ne))
 
-  -- the lists by a key stay those of the units (AreLists) when unit k is removed, and k is taken out of the list of its
-  -- key
+  -- the lists by a key stay those of the units (AreLists) when unit k is removed, and taken out of the list of its key
   pub AreLists-removed : (units : FinMap nat_cmp Unit) (lists : FinMap nat_cmp (List ℕ)) (k : ℕ) (u : Unit)
       → get units k ≡ Some u → AreLists belongs_to units lists
       → AreLists belongs_to (remove units k) (insert lists (belongs_to u) (take_number k (list_of lists (belongs_to u))))
@@ -80,8 +78,8 @@ pub AreLists-same : (belongs_to : Unit → ℕ) (units : FinMap nat_cmp Unit) (o
 AreLists-same belongs_to units old new same is k = same k ∙ is k
 
 module _ (belongs_to : Unit → ℕ) (units : FinMap nat_cmp Unit) (old new : FinMap nat_cmp (List ℕ)) (n key : ℕ) where
-  -- if the lists `old` have just the units of each key (AreLists), so do the lists `new`, which are `old` with a new
-  -- unit put into the list of its key, `key`
+  -- the lists `new` are those of the units with a new unit n (AreLists), if they are `old`, the lists of the units
+  -- without n, with n put into the list of its key, `key`
   pub AreLists-came : (u : Unit) → belongs_to u ≡ key → get units n ≡ None
       → new ≡ insert old key (put_number n (list_of old key)) → AreLists belongs_to units old
       → AreLists belongs_to (insert units n u) new
@@ -222,8 +220,7 @@ AreUnitLists-nobody = record {
 
 -- ---- units that change, or come and go again
 
--- the lists by region, faction and structure still have just the units of each (AreUnitLists) when a unit changes, but
--- none of these three
+-- all lists stay those of the units (AreUnitLists) when a unit changes, but its region, faction and structure don't
 pub AreUnitLists-kept : (units : FinMap nat_cmp Unit) (lists : UnitLists) (n : ℕ) (u v : Unit) → get units n ≡ Some u
     → list_keys_of u ≡ list_keys_of v → AreUnitLists units lists → AreUnitLists (insert units n v) lists
 AreUnitLists-kept units lists n u v is same old = record {

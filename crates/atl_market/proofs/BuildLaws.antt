@@ -448,9 +448,9 @@ begin_done w c d f n kind u k size says is none first asked_is size_is =
     let chain : faction_effect (begin w n kind k) c f n ≡ whole = ap (effect_on (begin w n kind k) c) is ∙ ap (λ o. fault_or c o whole) none in
     rw (first, asked_is, size_is) (sym chain)
 
--- Where `BUILD` of faction `f` for its unit `n` inside structure `s` has no fault, the order's definition (`go_on`)
--- gives campaign `d`, in which more is done (`after_building_on`), and Done with `says`. `size` and `says` are how much
--- the unit adds.
+-- Where `BUILD` of faction `f` for its unit `n` inside structure `s` of kind `k` has no fault, the order's definition
+-- (`go_on`) gives campaign `d`, in which more is done (`after_building_on`), and Done with `says`. `size` and `says`
+-- are how much the unit adds.
 pub go_on_done : (w : WorldValue) (c d : CampaignValue) (f n : ℕ) (u : Unit) (s : Structure) (k : Kind) (size says : ℕ)
     → of_faction f (get c.units n) ≡ Some u → get c.structures u.structure ≡ Some s → slice_get w.kinds s.kind ≡ Some k
     → inside_fault u s k ≡ None → d ≡ after_building_on c n k.material size u.structure (s.done + size) → says ≡ size

@@ -115,7 +115,7 @@ only_used item amount e t = by_number (amount_number e t == amount_number Used (
 sum_falls_with_term : (s t f g x : ℕ) → s + f ≡ t + g → f ≡ g + x → s + x ≡ t
 sum_falls_with_term s t f g x e h = omega (arith, e, h)
 
--- unit `n`, which is `u`, uses `amount` of an item, by the number `item`
+-- unit `n`, which is `u`, uses `amount` of an item, by the number `item`; `k` is the number of another unit
 module _ (w : WorldValue) (c : CampaignValue) (n item amount : ℕ) (u : Unit) (is : get c.units n ≡ Some u) where
   -- the unit after it used `amount` of the item
   abbrev pub user : Unit

@@ -134,13 +134,13 @@ pub record DrawnPots (K : Type 0) : Type 0 where
 
 -- `d` is a campaign in which the shares `e` and `es`, pairs (unit, share), are still to be drawn from the pots
 module _ {K : Type 0} (pots : DrawnPots K) where
-  -- in a campaign each pot holds at least the sum of those of the shares whose units draw from it
+  -- in a campaign each pot of a region that is there holds at least the sum of the shares whose units draw from it
   abbrev pub HaveEnough : CampaignValue → List (ℕ × ℕ) → Type 0
   HaveEnough d es =
       (k : K) (q : Region) → get d.regions (pots.pot_region k) ≡ Some q → drawn (pots.draws k) es ≤ pots.left k q
 
-  -- from campaign `d` to `after` the pots from which the unit of `e` draws lose its share, and all others keep what
-  -- they have
+  -- From campaign `d` to `after` the pots from which the unit of `e` draws lose its share, and all others keep what
+  -- they have. This holds of each pot whose region is in `after`; that region was in `d`.
   abbrev pub Drains : CampaignValue → ℕ × ℕ → CampaignValue → Type 0
   Drains d e after =
       (k : K) (x : Region) → get after.regions (pots.pot_region k) ≡ Some x
@@ -148,7 +148,7 @@ module _ {K : Type 0} (pots : DrawnPots K) where
 
   -- `e` and then `es` are the shares still to be drawn, as pairs (unit, share); the pots of `d` have enough for them
   module _ (d : CampaignValue) (e : ℕ × ℕ) (es : List (ℕ × ℕ)) (enough : HaveEnough d (e ∷ es)) where
-    -- the first share is at most what is left of a pot that its unit draws from
+    -- the first share is at most what is left of each pot that its unit draws from, if the region of the pot is in `d`
     pub first_draws : (k : K) (q : Region) → get d.regions (pots.pot_region k) ≡ Some q → pots.draws k e.0 ≡ true
         → e.1 ≤ pots.left k q
     first_draws k q around mine =

@@ -1,5 +1,5 @@
 -- The law that an exchange between a unit and its region keeps a campaign early and its books balanced. In an exchange
--- the unit gets another holding, its region changes, and money is booked, as by RECRUIT, SELL and BUY.
+-- what the unit holds changes, its region changes, and money is booked, as by RECRUIT, SELL and BUY.
 use Rattle.std.proofs.Common.{◌≡◌, ◌==◌, ℕ, ◌+◌, true, false, cond, Some, refl, sym, ap, ◌∙◌, arith}
 use Rattle.std.specs.Prelude.{ℤ, pos, ◌+ℤ◌}
 use Rattle.std.specs.FinMap.{get, insert}

@@ -126,13 +126,14 @@ module _ (w : WorldValue) (c : CampaignValue) (n : ℕ) (u : Unit) (i amount : �
 
 -- ---- what is used
 
+-- taking `k` off `a`, where `a` has as much, is adding -`k`, as integers (`pos`)
 pub taken_off : (a k : ℕ) → k ≤ a → pos (a - k) ≡ pos a +ℤ neg_ℤ (pos k)
 taken_off a k l = omega (arith, ints, l)
 
 pub put_to : (a k : ℕ) → pos (a + k) ≡ pos a +ℤ pos k
 put_to a k = omega (arith, ints)
 
--- `k` is how many of item `i` unit `n` uses or makes
+-- `k` is how many of item `i` unit `n` uses or makes, and `m` is the number of another unit
 module _ (w : WorldValue) (c : CampaignValue) (n i k : ℕ) where
   -- where the unit is there, using `k` of item `i` sets the unit's amount of it, and books `k` as used
   pub used_is : (u : Unit) → get c.units n ≡ Some u
@@ -215,7 +216,7 @@ module _ (w : WorldValue) (c : CampaignValue) (n i k : ℕ) where
       by_unit c n (λ (d : CampaignValue). get d.units m ≡ get c.units m) _ refl
       (λ u is. item_others (amount_of u.holding.items i + k) m apart)
 
--- a holding from which `k` of item `r` are taken has no more of any item than before
+-- what a unit holds (`h`), less `k` of item `r`, has no more of any item `i` than before
 pub no_more : (h : HoldingValue) (r i k : ℕ)
     → amount_of (with_amount_of h.items r (amount_of h.items r - k)) i ≤ amount_of h.items i
 no_more h r i k =

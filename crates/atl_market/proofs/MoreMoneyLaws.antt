@@ -11,7 +11,7 @@ use Rattle.atl_campaign.proofs.RegionLaws.{changed-known, get-insert_same}
 use Rattle.atl_phase.specs.NoWorse.{AreNoWorse, IsNoWorse}
 use Rattle.atl_phase.proofs.NoWorseLaws.{no_worse}
 
--- unit `n`, which is `u`, gets `money`; `c` is the campaign before that
+-- unit `n`, which is `u`, gets `money`; `c` is the campaign before that, and `k` the number of another unit
 module _ (c : CampaignValue) (n : ℕ) (u : Unit) (money : ℕ) where
   -- what unit `u` holds after it got `money`
   abbrev pub paid : HoldingValue

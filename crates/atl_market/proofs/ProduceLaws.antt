@@ -241,7 +241,6 @@ pub names_item : (h : HoldingValue) (item : Option Item) → produce_fault h ite
 names_item h (Some x) fine = refl
 names_item h None fine = absurd (by_men (h.men == 0) fine)
   where
-    -- for `names_item`: an order without an item has a fault: NoMen for a unit without men (`b`), else NoSkill
     by_men : (b : Bool) → first_fault ((b, NoMen) ∷ (true, NoSkill) ∷ []) ≡ None → ⊥
     by_men true never = none_some NoMen (sym never)
     by_men false never = none_some NoSkill (sym never)

@@ -54,7 +54,7 @@ peasants_of q = q.peasants
 abbrev pub with_fewer_peasants : Region → ℕ → Region → Region
 with_fewer_peasants q recruits r = record r { peasants = q.peasants - recruits }
 
--- a campaign in which recruits joined unit `u`, which paid for them
+-- a campaign in which recruits joined unit `u`, which paid for them; the peasants are still there, nothing is booked
 abbrev pub with_recruits_joined : CampaignValue → ℕ → Unit → (recruits cost : ℕ) → CampaignValue
 with_recruits_joined c n u recruits cost =
     record c { units = insert c.units n (record u { holding = with_paid_recruits u.holding recruits cost }) }

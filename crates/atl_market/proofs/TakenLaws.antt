@@ -41,7 +41,6 @@ use Rattle.atl_market.proofs.WorkOrderLaws.{all_are, have_same_key, month_long_k
 build_takes : TakesThose build_step is_building all_orders
 build_takes w a t of_phase fit = by_verb t.order_value.verb t.order_value.operands of_phase fit.shape fit.operands
   where
-    -- an element of a list, by an index within the list, is there, and so is what is made of it
     is_there : {A B : Type 0} (f : A → B) (xs : List A) (i : ℕ) → i < length xs
         → is_some (option_map f (slice_get xs i)) ≡ true
     is_there f [] i inside = absurd (omega (arith, inside))

@@ -233,13 +233,13 @@ stock_low w c r q i early around = by_amount (get q.stocks i) refl
     by_amount None is = omega arith
     by_amount (Some a) is = ((early.steady.numbers.regions r q around).stocks i a is).1
 
--- Which units draw from the pot of a region and an item (the pair `k`): those that are in the region and whose order
--- names the item. `units` are those of the campaign when the phase begins, and `items` has by unit its order's item.
+-- Which units take their shares from the pot of a region and an item (the pair `k`): those that are in the region and
+-- whose order names the item. `units` are those of the campaign as the phase begins; `items` has by unit the item.
 abbrev pub draws_item : FinMap nat_cmp Unit → FinMap nat_cmp ℕ → ℕ × ℕ → ℕ → Bool
 draws_item units items k n = is_in_region k.0 (get units n) && asks_for k.1 (get items n)
 
 -- The pots of SELL or BUY, by region and item. What is left of one is the market's limit (0 without a market) less the
--- stock (SELL), or the stock (BUY). `units` and `items` say which units draw from it (`draws_item`).
+-- stock (SELL), or the stock (BUY). `units` and `items` say whose shares it gives (`draws_item`).
 abbrev pub item_pots : Trade → WorldValue → FinMap nat_cmp Unit → FinMap nat_cmp ℕ → DrawnPots (ℕ × ℕ)
 item_pots trade w units items =
     record { pot_region = λ k. k.0; draws = draws_item units items; left = λ k q. market_pot trade (limit_of w k.1 k.0) (amount_of q.stocks k.1) }

@@ -159,8 +159,8 @@ module _ (p : PotMeaning) (w : WorldValue) (c : CampaignValue) where
 
   -- the phase gives only to units with a want, and to none more than it wants
   module _ (gives : GivesToWants p w c) where
-    -- Each unit that gets something wants at least as much by some order without a fault that is for the unit. If that
-    -- order names an item, this is the item listed for the unit (`items_by`).
+    -- Each unit that gets something is there, and wants at least as much by some order without a fault that is for it.
+    -- If that order names an item, this is the item listed for the unit (`items_by`).
     pub given_is_named : (ts : List Task) →
         Every (λ n share. (u : Unit) × (t : Task) × (get c.units n ≡ Some u) × (t.unit ≡ n) × (share ≤ p.want w u t) × (p.fault w u t ≡ None) × ((i : ℕ) → item_in t.order_value.operands ≡ Some i → get (items_by p w c ts) n ≡ Some i)) (given_by p w c ts)
     given_is_named ts n share is =

@@ -51,7 +51,7 @@ use Rattle.atl_market.specs.Payable.{CanWork}
 
 -- ---- one unit gets its wages
 
--- unit `n`, which is `u`, is paid `money` as wages
+-- unit `n`, which is `u`, is paid `money` as wages; `k` is the number of another unit
 module _ (w : WorldValue) (c : CampaignValue) (n : ℕ) (u : Unit) (money : ℕ) (is : get c.units n ≡ Some u) where
   abbrev more : HoldingValue
   more = paid c n u money
@@ -106,7 +106,7 @@ module _ (w : WorldValue) (c : CampaignValue) (n : ℕ) (u : Unit) (money : ℕ)
 
 -- ---- one step
 
--- `e` is a unit's number with its share: how many work places it gets
+-- `e` is a unit's number with its share: how many work places it gets; `k` is the number of another unit
 module _ (w : WorldValue) (c : CampaignValue) (e : ℕ × ℕ) where
   -- if the unit of `e` is there and is `u`, the campaign after the payment (`after_work`) is that in which `u` got the
   -- wages of its work places, which are booked (`wages_paid`)

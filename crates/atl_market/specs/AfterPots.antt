@@ -1,5 +1,5 @@
 -- The laws that SELL, BUY, TAX, RECRUIT, PRODUCE and WORK change all units and regions at once.
--- See docs/RULES.md, "Pots".
+-- See docs/RULES.md, "Pots". Where a number is less than what is taken from it, 0 is left.
 use Rattle.std.specs.Prelude.{◌+◌, ◌-◌, ◌*◌, ℕ, List, Option}
 use Rattle.std.specs.Option.{option_map_or}
 use Rattle.std.specs.FinMap.{get}
@@ -20,8 +20,8 @@ use Rattle.atl_market.specs.Work.{wages_for, work_pots}
 use Rattle.atl_market.specs.declared.trade.Trade.{Trade}
 use Rattle.atl_market.specs.declared.trade.Trade.TheVariants.{Sell, Buy}
 
--- A holding after a trade of `share` pieces with a market. SELL: goods for money, at `pays` each. BUY: money for goods,
--- at `price`.
+-- What a unit holds after a trade of `share` pieces with a market. SELL: goods for money, at `pays` each. BUY: money
+-- for goods, at `price` each.
 abbrev pub with_trade : Trade → HoldingValue → (share : ℕ) → Market → HoldingValue
 with_trade Sell h share m = record h {
   money = h.money + share * m.pays;
@@ -82,12 +82,12 @@ RecruitsAtOnce =
     (w : WorldValue) (c : CampaignValue) (os : List Task)
     → PaysAtOnce recruit_pots w (λ n. with_recruits w) with_less_peasants c os
 
--- a holding with `amount` less of a raw item, by its number; as it was where no item is given
+-- what a unit holds, with `amount` less of a raw item, by its number; as it was where no item is given
 abbrev pub with_raw_taken : HoldingValue → Option ℕ → (amount : ℕ) → HoldingValue
 with_raw_taken h item amount =
     option_map_or (λ i. record h { items = with_amount_of h.items i (amount_of h.items i - amount) }) item h
 
--- a holding with `amount` more of an item
+-- what a unit holds, with `amount` more of an item, by its number
 abbrev pub with_pieces_added : HoldingValue → (item amount : ℕ) → HoldingValue
 with_pieces_added h item amount = record h { items = with_amount_of h.items item (amount_of h.items item + amount) }
 

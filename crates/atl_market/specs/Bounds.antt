@@ -28,7 +28,7 @@ pub record CanBuild (w : WorldValue) (c : CampaignValue) : Type 0 where
   -- each kind of the world keeps the rules of kinds, so its material and its skill are of the world
   pub kinds : (i : ℕ) (k : Kind) → slice_get w.kinds i ≡ Some k → IsKind (length w.items) (length w.skills) k
 
--- how much of a thing BUILD may still book for a holding under an entry: under Used all that it has of an item, else 0
+-- how much of a thing BUILD may still book under an entry for what a unit holds: under Used all of an item, else 0
 abbrev pub still_bookable : BooksEntry → Thing → HoldingValue → ℕ
 still_bookable e (Item i) h = if entry_index e == entry_index Used then amount_of h.items i else 0
 still_bookable e t h = 0

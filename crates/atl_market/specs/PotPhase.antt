@@ -79,7 +79,7 @@ module _ (p : PotMeaning) (w : WorldValue) (c : CampaignValue) where
   carrier_of t None = Err NotYours
   carrier_of t (Some u) = unless_fault (p.fault w u t) u
 
-  -- the unit that carries an order out, or the order's fault
+  -- the unit that carries an order out, or the order's fault: NotYours where it isn't there or isn't its faction's
   unfoldable pub unit_for : Task → Result Unit EventFault
   unit_for t = carrier_of t (of_faction t.faction (get c.units t.unit))
 

@@ -1,5 +1,6 @@
 -- PRODUCE: units make items out of raw items, or out of what the terrain of their region gives.
--- See docs/RULES.md, "Producing".
+-- See docs/RULES.md, "Producing". A map `asked` has, by unit, the number of the item that the unit's order names, and a
+-- map `wants` how many pieces of it the unit wants. Otherwise `asked` is the number that one order names, if any.
 use Rattle.std.specs.Prelude.{◌-◌, ◌*◌, ◌/◌, ◌==◌, ℕ, Bool, true, false, map, min, nat_lt, Option, Some, None, is_some, option_and_then, option_map, unwrap_or, if◌then◌else◌, [], ◌∷◌}
 use Rattle.std.specs.List.{slice_get}
 use Rattle.std.specs.Ordering.{nat_cmp}
@@ -62,8 +63,7 @@ most_makeable w h asked = option_map_or (λ e. most_makeable_of h e.0 e.1) (numb
 abbrev pub takes_raw : WorldValue → Option ℕ → Bool
 takes_raw w asked = option_map_or (λ x. is_some x.raw) (item_of w asked) true
 
--- The item that unit `n` makes out of what its region gives: the one that its order names; None if `takes_raw` holds.
--- Here and below, `asked` has by unit the number of the item that its order names, and `wants` how many it wants.
+-- the item that unit `n` makes out of what its region gives: the one that its order names; None if `takes_raw` holds
 abbrev pub output_item : WorldValue → FinMap nat_cmp ℕ → ℕ → Option ℕ
 output_item w asked n = if takes_raw w (get asked n) then None else get asked n
 
@@ -150,7 +150,7 @@ produce_moves most e t = 0
 abbrev pub produce_keeps : Frame
 produce_keeps = no_worse_without_order is_produce
 
--- the specification of the phase PRODUCE, which books only Made and Used of items, each by less than 10^14
+-- the phase PRODUCE: it books only Made and Used of items, each by less than 10^14, and keeps what `produce_keeps` says
 abbrev pub produce_spec : PhaseSpec
 produce_spec = record {
   meaning = produce_meaning;

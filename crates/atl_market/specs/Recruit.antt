@@ -39,12 +39,12 @@ recruit_want w u asked = min asked (min (u.holding.money / w.rules.recruit_price
 abbrev pub recruits_at : WorldValue → CampaignValue → ℕ → ℕ
 recruits_at w c region = option_map_or (λ q. q.peasants / w.rules.recruit_fraction) (get c.regions region) 0
 
--- a holding with `recruits` more men, who have studied nothing, and with their cost taken from its money
+-- what a unit holds, with `recruits` more men, who have studied nothing, and `cost` less money, 0 where it had less
 abbrev pub with_paid_recruits : HoldingValue → (recruits cost : ℕ) → HoldingValue
 with_paid_recruits h recruits cost = record h { men = h.men + recruits; money = h.money - cost }
 
--- A campaign after `recruits` peasants of its region joined a unit, by its number. The unit pays their price, which is
--- booked as taken out of the campaign (below 0). It is unchanged where unit or region isn't there.
+-- A campaign after `recruits` peasants of its region joined a unit, by its number, and it paid for them. The price is
+-- booked below 0. Where money or peasants are too few, 0 are left; where unit or region isn't there, nothing changes.
 unfoldable pub after_recruiting : WorldValue → CampaignValue → ℕ × ℕ → CampaignValue
 after_recruiting w c (n, recruits) =
     let cost = recruits * w.rules.recruit_price in
@@ -76,6 +76,6 @@ recruit_moves most = moves_only most Recruiting Money
 abbrev pub recruit_keeps : Frame
 recruit_keeps = no_worse_without_order is_recruit
 
--- the specification of the phase RECRUIT, which books only Recruiting of money, by less than 10^14
+-- the phase RECRUIT: it books only Recruiting of money, by less than 10^14, and keeps what `recruit_keeps` says
 abbrev pub recruit_spec : PhaseSpec
 recruit_spec = books_money Recruiting recruit_meaning recruit_keeps

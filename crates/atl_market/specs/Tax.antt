@@ -35,7 +35,8 @@ tax_want w u = min (u.holding.men * w.rules.tax_per_man) (holding_limit - u.hold
 abbrev pub money_at : CampaignValue → ℕ → ℕ
 money_at c region = option_map_or (λ q. q.money) (get c.regions region) 0
 
--- a campaign after a unit, by its number, took its share of its region's money; unchanged where one of them isn't there
+-- A campaign after a unit, by its number, took its share of its region's money; if the region has less, 0 is left. It
+-- is unchanged where unit or region isn't there.
 unfoldable pub after_tax : CampaignValue → ℕ × ℕ → CampaignValue
 after_tax c (n, share) =
     at_unit c n (λ u.

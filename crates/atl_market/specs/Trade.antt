@@ -69,7 +69,7 @@ trade_want trade h asked market = option_map_or (λ m. min asked (most_tradable 
 
 -- ---- the pots
 
--- the pot of a market: for SELL its limit less its stock, for BUY its stock
+-- the pot of a market: for SELL its limit less its stock, 0 where the stock is more; for BUY its stock
 abbrev pub market_pot : Trade → (limit stock : ℕ) → ℕ
 market_pot Sell limit stock = limit - stock
 market_pot Buy limit stock = stock
@@ -86,7 +86,7 @@ trade_pot trade w c item region = market_pot trade (limit_of w item region) (sto
 -- ---- what changes
 
 -- The result of trading `share` pieces with a market that has `stock` pieces. It has the unit's money, its amount of
--- the item and the stock after the trade, and the money to book, with a minus for BUY.
+-- the item and the stock after the trade, each at least 0, and the money to book, with a minus for BUY.
 abbrev pub trade_result_of : Trade → HoldingValue → (stock share : ℕ) → Market → TradeResult
 trade_result_of Sell h stock share m = record {
   money = h.money + share * m.pays;
@@ -106,7 +106,7 @@ abbrev pub trade_entry : Trade → BooksEntry
 trade_entry Sell = Sold
 trade_entry Buy = Bought
 
--- a holding with the money and the amount of an item that a trade leaves, as its result `d` says
+-- what a unit holds, with the money and the amount of an item that a trade leaves, as its result `d` says
 abbrev pub with_trade_result : HoldingValue → (item : ℕ) → TradeResult → HoldingValue
 with_trade_result h item d = record h { money = d.money; items = with_amount_of h.items item d.amount }
 
@@ -152,10 +152,10 @@ trade_moves trade most = moves_only most (trade_entry trade) Money
 abbrev pub trade_keeps : Trade → Frame
 trade_keeps trade = no_worse_without_order (is_trade trade)
 
--- the specification of the phase SELL, which books only Sold of money, by less than 10^14
+-- the specification of SELL: it books only Sold of money, by less than 10^14, and keeps what `trade_keeps` says
 abbrev pub sell_spec : PhaseSpec
 sell_spec = books_money Sold (trade_meaning Sell) (trade_keeps Sell)
 
--- the specification of the phase BUY, which books only Bought of money, by less than 10^14
+-- the specification of BUY: it books only Bought of money, by less than 10^14, and keeps what `trade_keeps` says
 abbrev pub buy_spec : PhaseSpec
 buy_spec = books_money Bought (trade_meaning Buy) (trade_keeps Buy)

@@ -1,5 +1,5 @@
 //! BUILD: units begin structures, and continue those that they are inside. See docs/RULES.md,
-//! "Building".
+//! "Building". AllocError without memory; the campaign may then be changed in part.
 ghost use Rattle.std.specs.Prelude.{◌≡◌, ◌≤◌, ◌<◌, ◌++◌, IfOk, None, OnOk, Some, true};
 ghost use Rattle.std.specs.FinMap as map;
 ghost use Rattle.std.specs.Fmt.{decimal};
@@ -54,6 +54,7 @@ fn is_structure_limit(campaign: &Campaign) -> bool
     campaign.next_structure() > MOST_STRUCTURES
 }
 
+/// The first fault of `BUILD kind` after NotYours, if any. The structures' numbers have no gap.
 fn begin_fault(world: &World, campaign: &Campaign, unit: &Unit, kind: &Kind) -> Option<EventFault>
     requires { IsNumbered campaign.now.value.structures campaign.now.value.next_structure }
     ensures { result ≡ begin_fault world.now campaign.now.value unit.now kind.now }
@@ -144,6 +145,7 @@ fn start_structure(
     Ok(())
 }
 
+/// Carries out an order `BUILD kind`; `number` is the kind's. A fault changes nothing.
 #[tactic(auto, unfolding(crate::specs::Build::begin))]
 fn begin(
     alloc: Global,
@@ -176,6 +178,7 @@ fn begin(
     Ok(Outcome::Done(u64::from(size)))
 }
 
+/// Carries out an order BUILD without a kind. A fault changes nothing.
 #[tactic(auto, unfolding(crate::specs::Build::go_on))]
 fn go_on(
     world: &World,

@@ -78,6 +78,7 @@ fn most_makeable_of(holding: &Holding, number: u16, item: &Item) -> u32
     up_to_raw(holding, item.raw_count, item.raw, skilled.min(room))
 }
 
+/// The most that a unit can make of the item that its order names, which the world has.
 pub(crate) fn most_makeable(world: &World, holding: &Holding, asked: Option<u16>) -> u32
     requires { is_some (item_of world.now asked) ≡ true }
     ensures value { result ≡ most_makeable world.now holding.now asked }
@@ -89,6 +90,7 @@ pub(crate) fn most_makeable(world: &World, holding: &Holding, asked: Option<u16>
     }
 }
 
+/// Unit `number` uses up the raw items (at most 999,999,999) for `made` pieces of `item`, if any.
 fn use_raw(
     world: &World,
     campaign: &mut Campaign,

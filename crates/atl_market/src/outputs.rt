@@ -60,6 +60,7 @@ impl<'a> ItemPots for Outputs<'a> {
     }
 }
 
+/// `shares` has by unit its share of what its region's terrain gives of its item.
 #[tactic(auto, using(atl_pots::proofs::ItemPotLaws::shares_at))]
 fn amount_made(
     world: &World,

@@ -1,6 +1,6 @@
 //! Phases in which the units of each region share a pot: their trait, and the one body that shares
 //! out and reports. `wants`, `items` and `given` have, by unit, what the unit wants, the item that
-//! its order names, and what it gets. See docs/RULES.md, "Pots".
+//! its order names, and what it gets. AllocError without memory. See docs/RULES.md, "Pots".
 ghost use Rattle.std.specs.Prelude.{⊤, ℕ, ◌≡◌, ◌≤◌, IfOk, None, OnOk, fold, map, true};
 ghost use Rattle.std.specs.List.{All};
 ghost use Rattle.std.specs.FinMap.{FinMap, entries};

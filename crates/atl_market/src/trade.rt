@@ -1,5 +1,5 @@
-//! SELL and BUY: units trade items with the markets of their regions. See docs/RULES.md, "Selling"
-//! and docs/RULES.md, "Buying".
+//! SELL and BUY: units trade items with the markets of their regions. AllocError without memory;
+//! the campaign may then be changed in part. See docs/RULES.md, "Selling" and "Buying".
 ghost use Rattle.std.specs.Prelude.{◌≡◌, ◌≤◌, IfSome, OnOk, Some, true};
 ghost use Rattle.std.specs.FinMap as finmap;
 ghost use Rattle.std.specs.Option.{option_copied};
@@ -85,6 +85,7 @@ fn trade_fault(trade: Trade, holding: &Holding, market: Option<&Market>) -> Opti
     has_too_little(trade, holding, market).then_some(EventFault::NotEnough)
 }
 
+/// At most 999,999,999; the market's prices are at least 1.
 fn most_tradable(trade: Trade, holding: &Holding, market: &Market) -> u32
     requires { IsPriced market.now }
     ensures value { result ≡ most_tradable trade holding.now market.now }
@@ -98,6 +99,7 @@ fn most_tradable(trade: Trade, holding: &Holding, market: &Market) -> u32
     }
 }
 
+/// The unit can afford the share, and the market has room for it (SELL) or has it in stock (BUY).
 fn trade_result_of(
     trade: Trade,
     holding: &Holding,

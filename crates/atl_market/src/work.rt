@@ -1,5 +1,5 @@
 //! WORK: units share the work places of their region's terrain, and each place pays the wage. See
-//! docs/RULES.md, "Work".
+//! docs/RULES.md, "Work". AllocError without memory; the campaign may then be changed in part.
 ghost use Rattle.std.specs.Prelude.{⊤, ℕ, ◌≡◌, ◌<◌, ◌++◌, is_some, map, IfOk, OnOk};
 ghost use Rattle.std.specs.FinMap.{get};
 ghost use Rattle.std.specs.FinSet as set;
@@ -44,6 +44,7 @@ fn add_writer(campaign: &Campaign, unit: u32, faction: u32, writers: &mut Marks)
     }
 }
 
+/// The units for which their own faction wrote one of `orders`.
 fn own_writers(
     alloc: Global,
     campaign: &Campaign,
@@ -124,6 +125,7 @@ fn sort_by_unit(list: &mut Vec<PhaseOrder<'_>>)
     );
 }
 
+/// All orders of the phase, sorted; those that no mailing has refer to `mailing` and `work`.
 fn work_orders<'m>(
     alloc: Global,
     campaign: &Campaign,

@@ -49,7 +49,6 @@ use Rattle.atl_shares.specs.declared.upkeep_sharing.UpkeepResult.{UpkeepResult}
 
 -- ---- the phases without orders
 
--- a phase that leaves the month as it was adds nothing
 nothing_given : (meaning : Meaning) → ((w : WorldValue) (c : CampaignValue) (m : MonthValue) → (meaning w c m).1 ≡ m)
     → Gives (λ counts t. []) meaning
 nothing_given meaning same = record {
@@ -58,7 +57,6 @@ nothing_given meaning same = record {
   aliases = λ w c m. ap (λ x. x.aliases) (same w c m);
 }
 
--- no event of upkeep is on the line of an order
 none_starved : (faction line : ℕ) → 0 < line → (list : List UpkeepResult)
     → filter (is_from faction line) (map report_of (map starved_event list)) ≡ []
 none_starved faction line low [] = refl
@@ -67,7 +65,6 @@ none_starved faction line low (s ∷ list) =
     ap (λ b. cond b (report_of (starved_event s) ∷ rest) rest) (second_false (s.faction == faction) (0 == line) (other_number 0 line (λ same. absurd (omega (arith, low, same)))))
     ∙ none_starved faction line low list
 
--- upkeep adds no event of an order
 upkeep_gives : Gives (λ counts t. []) upkeep_spec.meaning
 upkeep_gives = record {
   events = λ w c m aliases readings ea er fit t there.
@@ -134,21 +131,17 @@ rest_gives : Gives added_for rest_meaning
 rest_gives =
     gives_both (gives_both (gives_both goods pots) later) last
   where
-    -- the phases from NAME to TRANSFER
     goods : Gives (λ counts t. goods_added t.order_value.verb (names t.order_value.verb t.order_value.operands) counts t) goods_meaning
     goods = gives_both name_gives (gives_both place_gives (gives_both give_gives transfer_gives))
 
-    -- the phases from SELL to RECRUIT
     pots : Gives (λ counts t. pots_added t.order_value.verb counts t) pots_meaning
     pots = gives_both sell_gives (gives_both buy_gives (gives_both tax_gives recruit_gives))
 
-    -- the phases from GUARD 1 to PRODUCE
     later : Gives (λ counts t. later_added t.order_value.verb (sets_guard t.order_value.operands) counts t) (meaning_of later_phases)
     later =
         gives_both guard_gives
         (gives_both quit_gives (gives_both walk_gives (gives_both sail_gives (gives_both build_gives (gives_both learn_gives produce_gives)))))
 
-    -- WORK and the phases after it
     last : Gives (λ counts t. last_added t.order_value.verb counts t) (meaning_of last_phases)
     last =
         gives_both work_gives

@@ -1,7 +1,7 @@
 -- Laws of each phase of a month: which entries of the books it moves, and what it leaves to units of a faction without
 -- a mailing, if it keeps what its specification says. A phase's own entries are those that its specification lists
 -- (`moved`). Such a unit also keeps its faction and name, and the starved are those whom the phase's Starved events
--- report. All phases but the sweep keep the mailings, and none takes back a Starved event.
+-- report. None takes back a Starved event; all but the sweep, which removes units without men, keep the mailings.
 use Rattle.std.proofs.Common.{◌≤◌, [], ◌∷◌, arith}
 use Rattle.std.specs.Prelude.{if◌then◌else◌}
 use Rattle.std.proofs.lemmas.Bool.Decides.{nat_tests}
@@ -118,7 +118,7 @@ infixr 5 ◌▹◌
 ◌▹◌ : {A B : Type 0} → A → B → A × B
 one ▹ others = (one, others)
 
--- each phase from FORM to RECRUIT moves its own entries alone, and leaves such units their items and men
+-- each phase from FORM to RECRUIT moves only its own entries, and leaves such units items and men (`KeepsPhaseLaws`)
 pub early_are : EachPhase KeepsPhaseLaws early_phases
 early_are =
     keeps_phase_laws form_spec (moves_nothing_alone no_moved_entries) form_leaves
@@ -132,7 +132,7 @@ early_are =
     ▹ keeps_phase_laws recruit_spec (money_alone entries.Recruiting) recruit_leaves
     ▹ tt
 
--- each phase from GUARD 1 to PRODUCE moves its own entries alone, and leaves such units their items and men
+-- each phase from GUARD 1 to PRODUCE moves only its own entries, and leaves such units items and men (`KeepsPhaseLaws`)
 pub later_are : EachPhase KeepsPhaseLaws later_phases
 later_are =
     keeps_phase_laws guard_spec (moves_nothing_alone no_moved_entries) guard_leaves

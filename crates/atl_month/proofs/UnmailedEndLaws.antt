@@ -49,13 +49,11 @@ module _ (m : ℕ) (all : List UpkeepInput) (n : ℕ) where
   abbrev starving : List (ℕ × Unit) → ℕ
   starving es = sum_by (starved_of_n n) (upkeep_result_each m all es)
 
-  -- by the upkeep of another unit nobody of unit `n` starves
   other_starving : (e : ℕ × Unit) (es : List (ℕ × Unit)) → e.0 ≢ n → starving (e ∷ es) ≡ starving es
   other_starving e es apart =
       let more = sum_by-cons (starved_of_n n) (upkeep_result_one m all (upkeep_input_of e)) (upkeep_result_each m all es) in
       grind (arith, more, other_number e.0 n apart)
 
-  -- by the upkeep of units with greater numbers nobody of unit `n` starves
   none_starving : (es : List (ℕ × Unit)) → AllByRecursion (λ e. n < e.0) es → starving es ≡ 0
   none_starving [] above = refl
   none_starving (e ∷ es) above = other_starving e es (λ same. omega (arith, above.0, same)) ∙ none_starving es above.1

@@ -1,5 +1,5 @@
--- A month: its phases in order, what they make of a campaign, and how far they move the books.
--- See docs/RULES.md, "Closing a month".
+-- A month: its phases in order, what they make of a campaign, and how far they move the books. By upkeep units pay for
+-- their men, or men starve; the sweep removes units without men. See docs/RULES.md, "Closing a month".
 use Rattle.std.specs.Prelude.{◌≡◌, ◌≤◌, ℕ, ◌+◌, ◌*◌, List, [], ◌∷◌, map}
 use Rattle.std.specs.Ordering.{nat_cmp}
 use Rattle.std.specs.List.Sorted.{IsPermutation}

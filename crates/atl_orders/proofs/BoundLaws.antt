@@ -29,8 +29,7 @@ use Rattle.atl_orders.specs.Bounds.{IsWithin, IsNumber, IsAlias, IsUnitRef, IsOr
 
 -- ---- lines
 
--- the units and the alias of a reader's state, where it has any, are in range: units from 1 to 999,999,999, the alias
--- from 1 to 9,999
+-- the units of a reader's state are from 1 to 999,999,999, and its alias is from 1 to 9,999, where it has any
 abbrev IsStateInBounds : ReaderState → Type 0
 IsStateInBounds Nowhere = Unit {0}
 IsStateInBounds (At n) = IsNumber n

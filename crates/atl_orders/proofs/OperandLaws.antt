@@ -1,5 +1,5 @@
 -- Every order that is read has operands (what the words after its verb name) of its verb's shape, which says of which
--- kind they are, with numbers in range, names by the rule, and items, skills and kinds of the world. ws are the words
+-- kind they are. Numbers are in range, names by the rule, and items, skills and kinds of the world. ws are the words
 -- to read, w is one word, `most` the largest number allowed, `fault` the fault of any other, o a number read, or None.
 use Rattle.std.proofs.Common.{◌≡◌, ℕ, ◌<◌, ◌≤◌, Bool, List, [], ◌∷◌, length, codes, Option, Some, None, Result, Ok, Err, refl, arith}
 use Rattle.std.specs.List.{All}
@@ -269,7 +269,7 @@ module _ (world : WorldValue) where
   order_sound verb (Ok os) h k = record { shape = h; operands = k }
   order_sound verb (Err fault) h k = tt
 
-  -- the order that a verb and the words after it give says what it is (`IsOrderInBounds`)
+  -- the order that a verb and the words after it give, if any, says what it is and is in bounds (`IsOrderInBounds`)
   pub said_sound : (verb : Verb) (ws : List WordText) → IsOrderInBounds world (read_order world verb ws)
   unfolding read_order
   said_sound verb ws =

@@ -1,6 +1,6 @@
 -- The functions for one line (`line_step`) and for all lines after a header (`effects`) give what the rules allow, and
 -- the rules allow nothing else. `state` is the reader's state before the line or lines, `given` says which aliases
--- earlier FORM lines gave, and s is the step of a line.
+-- earlier FORM lines gave, and s is the step of a line. A state says which unit is named and which block is open.
 use Rattle.std.proofs.Common.{◌≡◌, ℕ, ◌+◌, ◌++◌, Bool, true, List, [], ◌∷◌, codes, Option, Some, None, Result, Ok, Err, refl, ap, ◌∙◌}
 use Rattle.std.specs.List.{list_all, flat_map}
 use Rattle.std.proofs.lemmas.Bool.{cond_both}

@@ -22,7 +22,7 @@ IsWithin most n = (1 ≤ n) × (n ≤ most)
 abbrev pub IsNumber : ℕ → Type 0
 IsNumber n = IsWithin most_number n
 
--- an alias is from 1 to 9,999
+-- an alias, the number by which a mailing names a new unit, is from 1 to 9,999
 abbrev pub IsAlias : ℕ → Type 0
 IsAlias alias = IsWithin last_alias alias
 
@@ -31,8 +31,8 @@ abbrev pub IsUnitRef : UnitRef → Type 0
 IsUnitRef (Number n) = IsNumber n
 IsUnitRef (Alias alias) = IsAlias alias
 
--- the operands of an order are in bounds: numbers and aliases in range, in a list one unit or more, names by the rule,
--- and items, skills and kinds that the world has; a flag, a direction, no operand and no kind always are
+-- The operands of an order are in bounds: numbers and aliases in range, in a list one unit or more, names by the rule,
+-- and items, skills and kinds that the world has. A flag, a direction, no operand and no kind always are.
 abbrev pub AreOperandsOf : WorldValue → OperandsValue → Type 0
 AreOperandsOf world operands.Nothing = Unit {0}
 AreOperandsOf world (operands.Alias alias) = IsAlias alias

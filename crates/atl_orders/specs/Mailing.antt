@@ -1,5 +1,5 @@
 -- The reading of a mailing: its faction, orders and faulty lines. `#END` counts in any case (`begins`).
--- See docs/RULES.md, "Reading a mailing".
+-- See docs/RULES.md, "Reading a mailing". The reader's state says which unit is named, and which block of FORM is open.
 use Rattle.std.specs.Prelude.{◌≡◌, ℕ, ◌+◌, Bool, List, [], ◌∷◌, length, map, codes, Result, Ok, Err, nat_lt, if◌then◌else◌}
 use Rattle.std.specs.List.{flat_map}
 use Rattle.atl_words.specs.Limits.{most_bytes}
@@ -26,8 +26,8 @@ pub record EntryValue : Type 0 where
   pub target : UnitRef
   pub order_value : OrderValue
 
--- The effect of each line above the first `#END`, with the line's number. The first line has the number n, the reader
--- is in `state` before it, and `given` says which aliases earlier FORM lines gave.
+-- The effect of each line, with its number, up to the first line of `#END`, which is left out, or to the last line. The
+-- first line has the number n, the reader is in `state` before it, and `given` says which aliases earlier lines gave.
 unfoldable pub effects : WorldValue → ℕ → ReaderState → (ℕ → Bool) → List (List ℕ) → List (ℕ × Effect)
 effects world n state given [] = []
 effects world n state given (line ∷ rest) =

@@ -1,6 +1,8 @@
 -- The rules for reading a mailing, as relations: of one line, of all lines after the header, and of a text.
 -- See docs/RULES.md, "Reading a mailing". `state` is the reader's state before the line, or before the first of the
--- lines, and `given` says which aliases earlier FORM lines gave. `#ATLANTIS` and `#END` count in any case (`begins`).
+-- lines: which unit is named, and which block is open. `given` says which aliases earlier FORM lines gave: an alias is
+-- the number by which a mailing names a new unit. A block is what FORM opens, up to END or UNIT. Its orders are for
+-- this unit, or in a skipped block, after a faulty FORM, for nobody. `#ATLANTIS` and `#END` count in any case.
 use Rattle.std.specs.Prelude.{◌≡◌, ℕ, ◌+◌, ◌<◌, ◌≤◌, ◌++◌, Bool, true, false, List, [], ◌∷◌, length, codes, Option, Some, None, Result, Ok, Err}
 use Rattle.std.specs.List.{All, list_all, flat_map}
 use Rattle.atl_world.specs.Worlds.{WorldValue}
@@ -59,12 +61,10 @@ pub data WordsSay (world : WorldValue) (state : ReaderState) (given : ℕ → Bo
   -- FORM where no unit is named: the line has the fault NoUnit, and a block opens that is skipped
   form_nowhere : FirstWordIs w keywords.Form → state ≡ Nowhere
       → s ≡ step (faulty NoUnit) (Skipping None) given → WordsSay world state given w ws s
-  -- FORM for a named unit outside of blocks, with a faulty alias or none: the line has this fault, and a block opens
-  -- that is skipped
+  -- FORM for a named unit outside of blocks, with a faulty alias or none: it has this fault, and a skipped block opens
   form_faulty : FirstWordIs w keywords.Form → (n : ℕ) → state ≡ At n → (fault : LineFault) → alias_at ws ≡ Err fault
       → s ≡ step (faulty fault) (Skipping (Some n)) given → WordsSay world state given w ws s
-  -- FORM for a named unit outside of blocks, with an alias that an earlier FORM gave: the line has the fault BadAlias,
-  -- and a block opens that is skipped
+  -- FORM for a named unit outside of blocks, with an alias given before: the fault BadAlias, and a skipped block opens
   form_again : FirstWordIs w keywords.Form → (n : ℕ) → state ≡ At n
       → (alias : ℕ) (rest : List WordText) → alias_at ws ≡ Ok (alias, rest) → given alias ≡ true
       → s ≡ step (faulty BadAlias) (Skipping (Some n)) given → WordsSay world state given w ws s
@@ -89,7 +89,7 @@ pub data WordsSay (world : WorldValue) (state : ReaderState) (given : ℕ → Bo
   unknown : keyword_of w ≡ None
       → s ≡ step (faulty UnknownOrder) state given → WordsSay world state given w ws s
 
--- the rules for one line of a mailing: the line has the step s
+-- The rules for one line of a mailing: the line has the step s. After the first rule each byte may be in a line.
 pub data LineSays (world : WorldValue) (state : ReaderState) (given : ℕ → Bool) (line : List ℕ) (s : LineStep) : Type 0 where
   -- a line with a byte that no line may have: it has the fault BadByte
   bad_byte : list_all is_plain line ≡ false
@@ -131,7 +131,7 @@ pub record HaveHeader (lines above : List (List ℕ)) (header : List ℕ) (below
   pub leads : is_header header ≡ true
   pub first : HaveNoHeader above
 
--- the rules for a whole text: it is read as `read`, a mailing or a fault
+-- The rules for a whole text: it is read as `read`, a mailing or a fault. After the first rule the text isn't too long.
 pub data TextSays (world : WorldValue) (text : List ℕ) (read : Result Reading MailFault) : Type 0 where
   -- a text of more than most_bytes bytes: it is no mailing, by the fault TooLong
   too_long : most_bytes < length text
@@ -160,11 +160,11 @@ LineRules =
     × ((world : WorldValue) (state : ReaderState) (given : ℕ → Bool) (line : List ℕ) (s : LineStep)
     → LineSays world state given line s → s ≡ line_step world state given line)
 
--- the orders that the lines above the first `#END` give by the function `effects`; the first line has the number n
+-- the orders of lines, up to the first `#END`, if any, by the function `effects`; the first line has the number n
 abbrev pub entries_from : WorldValue → ℕ → ReaderState → (ℕ → Bool) → List (List ℕ) → List EntryValue
 entries_from world n state given lines = flat_map entry_of (effects world n state given lines)
 
--- the faulty lines among those above the first `#END` by the function `effects`; the first line has the number n
+-- the faulty lines, up to the first `#END`, if any, by the function `effects`; the first line has the number n
 abbrev pub faults_from : WorldValue → ℕ → ReaderState → (ℕ → Bool) → List (List ℕ) → List FaultyLine
 faults_from world n state given lines = flat_map fault_of (effects world n state given lines)
 

@@ -11,10 +11,10 @@ pub fn rules_are_the_reading()
     ensures texts { TextRules }
 {}
 
-/// A law: every mailing that is read has a faction in range, its orders have strictly ascending
-/// line numbers, and each order has operands of the shape that the order table gives its verb, with
+/// A law: every mailing that is read has a faction in range, and its orders have strictly ascending
+/// line numbers. Each order has operands of the shape that the order table gives its verb, with
 /// numbers in their ranges, names by the rule of names, and items, skills and kinds of the world.
-/// The call does nothing. See docs/RULES.md, "Orders".
+/// The unit that it is for is in range, too. The call does nothing. See docs/RULES.md, "Orders".
 pub fn readings_keep_bounds()
     ensures { ReadingsKeepBounds }
 {}

@@ -140,8 +140,7 @@ one_or_none key b p =
     or_either key (seek 0 (cond (param_token == b) (([], key) ∷ []) []) p) (or_else (after_param (([], key) ∷ []) (b ∷ p)) None) (one_row_or_none_finds_key_or_none key b p (param_token == b))
     (or_either key (after_param (([], key) ∷ []) (b ∷ p)) None (parameter_key_or_none key b p (has_slash (b ∷ p)) refl) (inr refl))
 
--- For `number_by`: a choice between a number and None is None, if the last of its three tests is false. That test is
--- whether all bytes are digits.
+-- a choice between a number and None is None, if the last of its three tests, whether all are digits, fails
 none_if_not_digits : (x y : Bool) (n : Option ℕ) → cond (x && (y && false)) n None ≡ None
 none_if_not_digits true true n = refl
 none_if_not_digits true false n = refl

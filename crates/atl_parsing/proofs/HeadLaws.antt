@@ -136,8 +136,8 @@ finds_head input front method target rest headers fields spans e (lies, (head, a
     ∙ ap (λ l. head_checks spans.version (span_bytes l spans.method) (span_bytes l spans.path) (field_pairs l (take spans.headers headers))) e in
     (head, subst (λ l. HasHead input head l) (sym rest_is) (whole_head input headers spans head lies_front at_front room), λ after. ap (λ c. verdict_with_body c after) checked ∙ verdict_is input headers spans head after at_front)
 
--- If an input has a whole head with `rest` after it, and `checks` give the verdict on this head (`LeadsToVerdict`),
--- then a progress that is right by `checks` and `rest` (`EndsAs`) is right for the input (`ComesTo`).
+-- An input has a whole head with `rest` after it, and `checks` give the verdict on this head (`LeadsToVerdict`). Then a
+-- progress that is right by `checks` and `rest` (`EndsAs`) is right for the input (`ComesTo`).
 pub comes_whole : (input rest : List ℕ) (checks : Result (Route × ℕ × List ℕ) Problem) (progress : Progress)
     → LeadsToVerdict input rest checks → EndsAs checks rest progress → ComesTo input progress
 comes_whole input rest checks (Ends outcome) (head, has, same) e = whole head rest has (e ∙ same rest)

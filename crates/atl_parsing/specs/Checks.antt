@@ -137,8 +137,8 @@ abbrev pub verdict_on_request : Result Request Problem → Verdict
 verdict_on_request (Err problem) = Refused problem
 verdict_on_request (Ok asked) = Asks asked
 
--- the verdict on a head by the result of its first four checks and the bytes after it: Refused if a check failed, More
--- while the body isn't whole, else Refused or Asks by the request that route, pass text and body make
+-- The verdict on a head by its first four checks and the bytes after it. It is Refused if a check failed, and More
+-- while the body (the first `size` bytes) isn't whole; else Refused or Asks, by what route, pass text and body make.
 abbrev pub verdict_with_body : Result (Route × ℕ × List ℕ) Problem → (rest : List ℕ) → Verdict
 verdict_with_body (Err problem) rest = Refused problem
 verdict_with_body (Ok (route, size, pass)) rest =

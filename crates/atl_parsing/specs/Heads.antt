@@ -86,7 +86,7 @@ verdict_by (progress.Ends outcome) = as_verdict outcome
 abbrev pub most_at_once : ℕ
 most_at_once = 8192
 
--- No read was done after the request was whole or refused: nothing was read at all; or the last read gave the bytes
+-- No read was done after the request was whole or refused. Nothing was read at all; or the last read gave the bytes
 -- `last`, at most 8,192, and More is a right verdict on those before it (`front`).
 abbrev pub ReadsNoFurther : List ℕ → Type 0
 ReadsNoFurther seen =

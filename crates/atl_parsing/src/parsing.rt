@@ -21,6 +21,8 @@ const MOST_HEAD: usize = 8_192;
 /// The most fields of a head.
 const MOST_FIELDS: usize = 32;
 
+/// The progress of a whole head and the bytes `rest` after it: by the first four checks of the
+/// head, and then by the body. AllocError without memory.
 fn progress_with_body(
     alloc: Global,
     minor: u8,
@@ -71,6 +73,7 @@ pub(crate) enum HeadParse {
     Refused,
 }
 
+/// Parses the front as a head, and leaves in `fields` where its fields are.
 fn parse_head(front: &[u8], fields: &mut [HeaderSpan]) -> HeadParse
     requires { length fields.old ≡ most_fields }
     ensures finds { ParsesHead front.now fields.new result }
@@ -98,6 +101,7 @@ pub fn rest_after(seen: &[u8], len: usize) -> &[u8]
     &seen[len..]
 }
 
+/// The progress on the bytes `seen`, whose front begins with the whole head at the spans of `head`.
 fn progress_past_head(
     alloc: Global,
     seen: &[u8],

@@ -37,8 +37,8 @@ module _ (books : BooksValue) (e : BooksEntry) (t : Thing) (z : ℤ) (n : ℕ) (
       by_number true is = near_by _ _ z n small (amount-after_booking books e t z f u)
       by_number false is = near_if_equal _ _ (booking-other_amount books f e u t z (is_unequal _ _ is))
 
-  -- after a booking of at most n in size the books have room for the bound `next`, if before they had room for this
-  -- bound, and on the amount of entry e and thing t for n besides
+  -- After a booking of at most n in size the books have room for the bound `next`. For this they had room before for
+  -- this bound, and on the amount of entry e and thing t for n besides.
   pub booked-room : (next : BookBound)
       → ((f : BooksEntry) (u : Thing) → HasRoom (moves_only n e t f u + next f u) (amount_in books f u))
       → (f : BooksEntry) (u : Thing) → HasRoom (next f u) (amount_in (after_booking books e t z) f u)

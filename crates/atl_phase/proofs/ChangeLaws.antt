@@ -1,6 +1,6 @@
 -- Laws of a change to the holding of one unit: the campaign after it, and which marks are set. `ChangesHolding` says
--- that a unit holds what f makes of its holding, that nothing else changes, and that all changes are marked. In the
--- laws campaign c or a is before the change, d after it, and b between two changes; n is the number of the unit.
+-- that unit n, if it is there, holds what f makes of its holding. Nothing else changes, all changes are marked, and no
+-- mark is lost. In the laws campaign c or a is before the change, d after it, and b between two changes.
 use Rattle.std.proofs.Common.{◌≡◌, ◌≢◌, ℕ, Option, Some, None, refl, sym, ap, ◌∙◌}
 use Rattle.std.specs.Ordering.{nat_cmp}
 use Rattle.std.specs.FinMap.{FinMap, get, insert}

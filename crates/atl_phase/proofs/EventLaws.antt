@@ -1,7 +1,8 @@
 -- Laws of the events of phases: a phase gives one event to each of its orders that it doesn't pass over. What a phase
 -- adds for an order is said by the reports of its events that are of the order's faction and on its line. A report is
 -- what an event says of its order: faction, unit, line and verb. `there` says that order t is in the mailing of its
--- faction, and `is_of` which verbs a phase has.
+-- faction, and `is_of` which verbs a phase has. `readings` has what was read of each faction's mailing, by faction, and
+-- `aliases` the units that FORM made, by faction and then by alias.
 use Rattle.std.proofs.Common.{◌≡◌, ◌&&◌, ℕ, Bool, true, false, cond, List, [], ◌∷◌, ◌++◌, map, filter, is_some, Option, Some, None, refl, sym, ap, ap₂, subst, ◌∙◌, append_assoc}
 use Rattle.std.proofs.lemmas.List.{append-nil, map-append}
 use Rattle.std.proofs.lemmas.List.Elements.{filter-append, recursion_from_All}
@@ -39,8 +40,8 @@ reports_at faction line m = filter (is_from faction line) (map report_of m.event
 -- What a phase adds to the events of an order's faction and line: events with the reports `added`, given whether the
 -- order counts in its mailing, and the order. The phase keeps the mailings and the aliases.
 pub record Gives (added : Bool → Task → List Report) (meaning : Meaning) : Type 0 where
-  -- if the mailings can be read with the world, the reports of an order's faction and line are, after the phase, those
-  -- from before, and then `added`; for this the order is in its faction's mailing
+  -- If the mailings can be read with the world, the reports of an order's faction and line are, after the phase, those
+  -- from before, and then `added`. For this the order is in its faction's mailing, its unit by the month's aliases.
   pub events : (w : WorldValue) (c : CampaignValue) (m : MonthValue) (aliases : Aliases) (readings : FinMap nat_cmp Reading)
       → m.aliases ≡ aliases → m.readings ≡ readings → AreFit w readings
       → (t : Task) (there : IsInMailing aliases readings t)
@@ -108,9 +109,9 @@ reports_made outcome (t ∷ ts) = ap (λ rs. report_for t ∷ rs) (reports_made 
 -- ---- orders in turn
 
 -- X is what orders carried out in turn change besides the month, such as the campaign. Below, `step` carries out one
--- order: it makes of the X and the month before it those after it.
+-- order: it makes of the X and the month before it those after it. Such an X with a month is p.
 module _ {X : Type 0} where
-  -- what `part` gives of the month stays the same over the orders `ts`, if it does so over each; p is an X and a month
+  -- what `part` gives of the month stays the same over the orders `ts`, carried out from p on, if it does so over each
   pub fold_keeps : {A : Type 0} (part : MonthValue → A) (step : X × MonthValue → Task → X × MonthValue)
       → ((p : X × MonthValue) (t : Task) → part (step p t).1 ≡ part p.1) → (ts : List Task) (p : X × MonthValue)
       → part (fold step p ts).1 ≡ part p.1
@@ -154,13 +155,11 @@ module _ (step : OrderMeaning) (is_of : Verb → Bool) (takes : Task → Bool) (
   one_event c m t None = sym (append-nil (map report_of m.events))
   one_event c m t (Some effect) = map-append report_of m.events _
 
-  -- an event added to a month keeps its mailings and its aliases
   kept : (m : MonthValue) (t : Task) (o : Option Outcome)
       → ((with_event_of m t o).readings ≡ m.readings) × ((with_event_of m t o).aliases ≡ m.aliases)
   kept m t None = (refl, refl)
   kept m t (Some outcome) = (refl, refl)
 
-  -- the report of an order in front of those of others, if it is taken
   in_front : (t : Task) (ts : List Task) (b : Bool)
       → report_if b t ++ map report_for ts ≡ map report_for (cond b (t ∷ ts) ts)
   in_front t ts true = refl
@@ -195,7 +194,7 @@ module _ (step : OrderMeaning) (is_of : Verb → Bool) (takes : Task → Bool) (
       both (t ∷ ts) verbs says = (takes_those w m.aliases t verbs.0 says.0, both ts verbs.1 says.1)
 
   -- If the mailings can be read with the world, a phase that carries its orders out one by one gives one event to each
-  -- order that has a verb of the phase, counts and isn't passed over. It gives none to any other order (`Gives`).
+  -- order of its verbs that counts and isn't passed over. It gives none to any other order (`Gives`).
   pub gives_by_orders : Gives (λ counts t. report_if (is_of t.order_value.verb && counts && takes t) t) (meaning_by_orders step is_of)
   unfolding meaning_by_orders
   gives_by_orders = record {

@@ -26,8 +26,8 @@ pub fold_mapped : {S A B : Type 0} (f : S → B → S) (g : A → B) (s : S) (xs
 fold_mapped f g s [] = refl
 fold_mapped f g s (x ∷ xs) = fold_mapped f g (f s (g x)) xs
 
--- if ys is xs with g mapped over it, and P holds of each element of ys, P holds of g of the element of xs at an index i
--- below the length of xs
+-- If ys is xs with g mapped over it, and P holds of each element of ys, P holds of g of the element of xs at an index i
+-- below the length of xs. Past the end d stands in.
 pub each_mapped : {A B : Type 0} (P : B → Type 0) (g : A → B) (xs : List A) (ys : List B) → map g xs ≡ ys → All P ys
     → (i : ℕ) (d : A) → i < length xs → P (g (get_or xs i d))
 each_mapped P g xs ys is all i d inside =

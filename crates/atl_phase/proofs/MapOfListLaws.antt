@@ -88,7 +88,7 @@ module _ {K X : Type 0} {R : K → K → Ordering} (o : IsTotalOrder R) where
   rising [] h = tt
   rising (e ∷ es) h = let parts = and_parts _ _ h in (all_less e.0 es parts.0, rising es parts.1)
 
-  -- a map lists its entries by rising key, and no key twice
+  -- a map m lists its entries by rising key, and no key twice
   pub entries_rise : (m : FinMap R X) → IsStrictlySortedBy by_key (entries m)
   entries_rise m = rising (entries m) (is_true _ (entries_sorted m))
 
@@ -123,8 +123,8 @@ module _ {K X : Type 0} {R : K → K → Ordering} (o : IsTotalOrder R) where
         find_is q (passing p es) ∙ lookup-filter-values (eq_by_cmp_equiv o) p q es (keys_apart es apart)
         ∙ ap (option_filter p) (sym (find_is q es))
 
-    -- the map of those entries whose values pass a test p lists what passes of the entries that the map of all lists,
-    -- if no two have the same key
+    -- the map of those of the entries `es` whose values pass a test p lists what passes of the entries that the map of
+    -- all lists, if no two have the same key
     pub entries-passing : (p : X → Bool) (es : List (K × X)) → IsDistinct same_entry_key es
         → entries (from_entries {R = R} (passing p es)) ≡ passing p (entries (from_entries {R = R} es))
     entries-passing p es apart =

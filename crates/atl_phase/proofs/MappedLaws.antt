@@ -1,4 +1,4 @@
--- A law of the empty map: it lists nothing.
+-- A law of the empty map from keys, which R compares, to values: it lists nothing.
 use Rattle.std.proofs.Common.{◌≡◌, [], sym, ◌∙◌}
 use Rattle.std.specs.declared.cmp.Ordering.{Ordering}
 use Rattle.std.specs.FinMap.{empty, entries, len-entries, len-empty}

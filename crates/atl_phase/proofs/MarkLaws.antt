@@ -19,7 +19,7 @@ use Rattle.atl_campaign.proofs.OwnerLaws.{place-what}
 pub marks_by : (a b m : MarkedCampaign) → b.value ≡ m.value → b.marks ≡ m.marks → MarksChanges a m → MarksChanges a b
 marks_by a b m what marks h = rw (what, marks) (record { stay = h.stay; covers = h.covers })
 
--- if all that changed from a to b is marked, so it is from a to d, which is b with z booked besides, marked too
+-- if all that changed from a to b is marked, so is all from a to d, which is b with z booked under e for t, and marked
 pub booked_marks : (a b d : MarkedCampaign) (e : BooksEntry) (t : Thing) (z : ℤ) → MarksChanges a b
     → d.value ≡ with_booking b.value e t z → d.marks ≡ mark_amount b e t → MarksChanges a d
 booked_marks a b d e t z before what marks =
@@ -47,7 +47,7 @@ marks-place c d n r s what marks =
     marks_by c d (place_marked c n r s) (what ∙ sym (place-what c n r s)) marks
     (marks_place_at c n r s (get c.value.units n))
 
--- if P and Q imply R, and each of them holds where the result is Ok, R holds where the result is Ok
+-- if P and Q imply R, and each of them holds where the result r is Ok, R holds where r is Ok
 pub on_ok_both : {A E : Type 0} {P Q R : Type 0} (r : Result A E) → (P → Q → R) → OnOk r P → OnOk r Q → OnOk r R
 on_ok_both (Ok a) f p q = f p q
 on_ok_both (Err e) f p q = tt

@@ -56,7 +56,6 @@ room_when_sound w c book_bound l sound e t =
     let few : amount_bound c ≤ 3000000000000000000 = omega (arith, sound.steady.numbers.month, sound.steady.numbers.few_factions) in
     within (amount_in c.books e t) (amount_bound c) (book_bound e t) few (l e t) (sound.amounts e t)
   where
-    -- for `room_when_sound`: an amount of at most 3*10^18 in size has room for a move of at most 5*10^18
     within : (a : ℤ) (bound change : ℕ) → bound ≤ 3000000000000000000 → change ≤ 5000000000000000000 → IsWithin bound a
         → HasRoom change a
     within a bound change few little h =
@@ -152,14 +151,14 @@ module _ {A : Type 0} {leaves : Condition} (book_bound : BookBound) (w : WorldVa
       well_within (both_move book_bound (moved_times (length xs) book_bound)) (moved_times (length (x ∷ xs)) book_bound) w c (fold step (step c x) xs) (more x xs)
       (both_leave_well book_bound (moved_times (length xs) book_bound) w c (step c x) (fold step (step c x) xs) one (fold_leaves_well (step c x) xs one.leaves_it))
 
-  -- books with room for a step for each element of a list, which isn't empty, have room for one step
+  -- books with room for a step for each element of the list y ∷ ys, which isn't empty, have room for one step
   pub room_for_one : {B : Type 0} (c : CampaignValue) (y : B) (ys : List B)
       → HaveRoom (moved_times (length (y ∷ ys)) book_bound) c → HaveRoom book_bound c
   room_for_one c y ys room =
       room_less book_bound (moved_times (length (y ∷ ys)) book_bound) c (λ e t. omega (arith, more y ys e t)) room
 
-  -- where `leaves` is true, books with room for a step for each element of a list have, after the first step, room for
-  -- the steps of the others
+  -- where `leaves` is true, books with room for a step for each element of the list y ∷ ys have, after a step (for x),
+  -- room for the steps of the others, ys
   pub room_after_one : {B : Type 0} (c : CampaignValue) (x : A) (y : B) (ys : List B) → leaves w c
       → HaveRoom (moved_times (length (y ∷ ys)) book_bound) c → HaveRoom (moved_times (length ys) book_bound) (step c x)
   room_after_one c x y ys h room =

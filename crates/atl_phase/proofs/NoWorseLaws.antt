@@ -1,4 +1,4 @@
--- Laws of being no worse off (`IsNoWorse`): the same faction, region, structure, name and guard flag, and no fewer men,
+-- Laws of being no worse off (`IsNoWorse`): the same faction, region, structure, name and guard flag, no fewer men,
 -- no less money, and no less of any item or of the days of any skill. It is reflexive and transitive, for a unit and
 -- for all units of a campaign.
 use Rattle.std.proofs.Common.{refl, ◌∙◌, arith}

@@ -29,7 +29,7 @@ use Rattle.atl_phase.proofs.PhaseOrderLaws.{IsPhaseOrder, orders_count}
 
 -- ---- lines
 
--- where the lines of a mailing's orders (`es`) rise from above n on (`LinesRise`), that of each order e is above n
+-- where the lines of a mailing's orders (`es`) rise from above n on (`LinesRise`), that of the order e at i is above n
 pub entry_line_above : (n i : ℕ) (es : List EntryValue) (e : EntryValue) → LinesRise n es → slice_get es i ≡ Some e
     → n < e.line
 entry_line_above n i [] e rise is = cc

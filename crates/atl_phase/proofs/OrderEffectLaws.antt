@@ -112,8 +112,8 @@ no_worse_is_relation = record { same = no_worse; transitive = no_worse_twice; fa
 
 -- ---- orders
 
--- P holds of the campaign and outcome after a faction's order for unit n, if it holds in two cases: of the unchanged
--- campaign with the fault NotYours, and of what the effect makes where unit n is there and of this faction
+-- P holds of the campaign and outcome after a faction's order for unit n, if it holds in two cases. These are the
+-- unchanged campaign with the fault NotYours, and what the effect makes where unit n is there and of this faction.
 pub carried_cases : (P : CampaignValue × Outcome → Type 0) (effect : OrderEffect) (c : CampaignValue) (faction n : ℕ)
     → P (c, Fault 1) → ((u : Unit) → get c.units n ≡ Some u → u.faction ≡ faction → P (effect c u))
     → P (faction_effect effect c faction n)
@@ -141,7 +141,7 @@ ordered_cases P (Some effect) c t same done =
 abbrev with_some : CampaignValue × Outcome → CampaignValue × Option Outcome
 with_some p = (p.0, Some p.1)
 
--- the campaign d and the outcome o that the effect of an order of `faction` for unit n makes are the order's result,
+-- campaign d and outcome o, which the effect of an order of `faction` for unit n makes, are the order's result,
 -- with the outcome in `Some`, if the phase doesn't pass the order over
 pub result_of_effect : (effect : OrderEffect) (c d : CampaignValue) (faction n : ℕ) (o : Outcome)
     → (d, o) ≡ faction_effect effect c faction n → (d, Some o) ≡ order_result (Some effect) c faction n
@@ -180,8 +180,8 @@ module _ (step : OrderMeaning) {holds : Condition} {remaining : RemainingBound} 
       record { unit = rest.unit; there = rest.there; is_unaffected = orderly.unaffected_is_relation.transitive u one.unit rest.unit one.is_unaffected rest.is_unaffected }
 
   -- Once the orders `ts` are carried out one after another, from campaign c and month m, each unit that none of them
-  -- affects is still there, and changed at most as the phase's relation `unaffected` allows. For this `holds` is true
-  -- before, and the orders can be read with the world.
+  -- affects is still there, and changed at most as `unaffected` allows. For this `holds` is true before, and the orders
+  -- can be read with the world.
   pub orders_leave_others : (c : CampaignValue) (m : MonthValue) (ts : List Task) → holds w c
       → All (λ t. IsOrderOf w t.order_value) ts
       → AreUnaffected affects unaffected ts c (fold (one_order step w) (c, m) ts).0
@@ -209,7 +209,7 @@ module _ (w : WorldValue) where
         subst (IsOrderOf w) h.says
         (entry_fit h.reading t.index h.entry (fit t.faction h.reading h.of_faction) h.at_index)
 
-    -- where the mailings can be read with the world, so can each order of a phase
+    -- where the mailings can be read with the world, so can each order of a phase with the verbs that pass `is_of`
     pub orders_fit : (is_of : Verb → Bool)
         → All (λ t. IsOrderOf w t.order_value) (orders_of is_of ByUnit aliases readings)
     orders_fit is_of k d l = in_mailing_in_bounds _ (orders_are_in_mailings is_of ByUnit aliases readings k d l)
@@ -224,8 +224,8 @@ module _ (w : WorldValue) where
           so _ (All-from_recursion (λ t. is_of t.order_value.verb ≡ true) (orders_of is_of a aliases readings) (orders_have_verbs is_of a aliases readings) k d l)
           (in_mailing_in_bounds _ (orders_are_in_mailings is_of a aliases readings k d l))
 
-      -- what is so (P) of all orders that have a verb of the phase and can be read with the world is so of the order o
-      -- at i in `os`, the code's list of the phase's orders
+      -- What is so (P) of all orders that have a verb of the phase and can be read with the world is so of the order o
+      -- at i in `os`. This is the code's list of the phase's orders.
       pub listed_order : (os : List PhaseOrder) → map task_of os ≡ orders_of is_of a aliases readings
           → (i : ℕ) (o : PhaseOrder) → o ≡ get_or os i o → i < length os → P (task_of o)
       listed_order os are i o is inside =

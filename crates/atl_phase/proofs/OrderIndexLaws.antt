@@ -1,6 +1,6 @@
 -- Laws of the indices of orders that count: those of one mailing, order by order, and those of all mailings. An index
 -- (`OrderIndex`) says in which mailing of the list `ms` an order is, and where there. `old` is a list of indices, and
--- `new` or `list` this list after some were added.
+-- `new` or `list` this list after some were added. `is_of` says which verbs a phase has.
 use Rattle.std.proofs.Common.{◌≡◌, ◌==◌, ◌&&◌, ◌||◌, ℕ, ◌+◌, ◌<◌, ◌≤◌, Bool, true, false, true≢false, cond, Option, Some, None, List, [], ◌∷◌, ◌++◌, map, filter, drop, take, length, get_or, All, refl, sym, ap, ap₂, subst, ◌∙◌}
 use Rattle.std.specs.List.{list_any}
 use Rattle.std.proofs.lemmas.List.{append-nil, append_assoc, drop_all, drop_more, map-append, take_more}
@@ -69,8 +69,8 @@ module _ (is_of : Verb → Bool) (aliases : Aliases) (ms : List Mailing) (at : �
       tasks = ap (λ ts. map (task_at ms) list ++ ts) (sym (opened i h ∙ ap (λ b. cond b (task_at ms (place_of i) ∷ rest_from (i + 1)) (rest_from (i + 1))) skipped)) ∙ before.tasks;
     }
 
-    -- If the mailings `ms` have one at `at`, and its order at i counts for the phase, then the list with the index of
-    -- this order at its end has the indices of `old`, and then those of all orders that count before i + 1 (`Added`).
+    -- The mailings `ms` have one at `at`, and its order at i counts for the phase. Then the list with the index of this
+    -- order at its end has the indices of `old`, and then those of all orders that count before i + 1 (`Added`).
     pub pushed : at < length ms → counts i ≡ true → Added old (i + 1) (list ++ place_of i ∷ [])
     pushed within counted = record {
       there = λ all. All-push (IsThere ms) list (place_of i) (before.there all) (record { mailing = within; entry = h });
@@ -103,8 +103,8 @@ module _ (is_of : Verb → Bool) (aliases : Aliases) (ms : List Mailing) (at : �
         let t = task_at ms (place_of i) in
         sym (is ∙ (λ k. is_of (entry k).order.verb && counts_by_lines lines (found_is k).unit (found_is k).line (row_of (entry k).order.verb).slot) ∙ ap (λ z. is_of t.order_value.verb && z) (by_lines (tasks_at aliases ms at) lines t last (row_of t.order_value.verb).slot))
 
-    -- The order at i counts for the phase, and the code makes the index `found` of it. Then the list with `found` at
-    -- the end has all that count before i + 1 (`Added`).
+    -- The mailing `at` is there, its order at i counts for the phase, and the code makes the index `found` of it. If
+    -- `list` has all that count before i, then `new`, which is `list` and `found`, has those before i + 1 (`Added`).
     pub added : (old list new : List OrderIndex) → i < length read.entries → Added old i list → at < length ms
         → counts i ≡ true → new ≡ list ++ found ∷ [] → Added old (i + 1) new
     added old list new h before within counted is =
@@ -133,12 +133,10 @@ none_wanted is_of aliases asked faction i text [] h = refl
 none_wanted is_of aliases asked faction i text (e ∷ es) h =
     by_test (λ g. none_wanted is_of aliases asked faction (i + 1) text es g) (is_of e.order.verb) h
   where
-    -- the order of the first entry
     first : Task
     first =
         record { faction = faction; unit = unit_of aliases faction e.target; line = e.line; index = i; order_value = (entry_value text e).order_value }
 
-    -- the orders of the other entries that are wanted
     rest : List Task
     rest =
         filter (λ t. is_of t.order_value.verb && asked t)

@@ -1,6 +1,6 @@
 -- Laws of the keys of orders: no two orders have one key, and orders sorted by key are what the map of orders lists. A
 -- key (`key_of`) is the list of numbers that an order is sorted by, in arrangement `a`: by unit first, or by faction.
--- `ts` are orders; `os` is what the code sorts into `list`.
+-- `ts` are orders; `os` is what the code sorts into `list`. `is_of` says which verbs a phase has.
 use Rattle.std.proofs.Common.{◌≡◌, ℕ, ◌+◌, ◌≤◌, ◌<◌, Bool, false, List, [], ◌∷◌, map, get_or, refl, sym, ap, subst, ◌∙◌, arith, IsPermutation, flat_map}
 use mathlib.Core.List.{map-map}
 use Rattle.std.specs.Ordering.{nat_cmp, eq_by_cmp}
@@ -64,7 +64,7 @@ module _ (a : Arrangement) (aliases : Aliases) where
         apart_within faction (index + 1) es,
       )
 
-  -- no two of the orders of all mailings that count for a phase have the same key
+  -- no two of the orders of all mailings (`readings`) that count for a phase have the same key
   pub all_apart : (is_of : Verb → Bool) (readings : FinMap nat_cmp Reading)
       → IsDistinct (same_key a) (tasks_of_phase is_of aliases (entries readings))
   all_apart is_of readings =
@@ -113,7 +113,7 @@ sorted_by_order_keys ByFaction ms list up = up
 
 -- The indices `os` name all orders that count and have a verb that passes `is_of`, mailing by mailing. Sorted by their
 -- own keys into `list`, they name these orders as arrangement `a` sorts them (`AreOrderIndices`). For this the mailings
--- are sorted by faction, no two of one faction.
+-- `ms` are sorted by faction, no two of one faction.
 pub sorted_places : (is_of : Verb → Bool) (a : Arrangement) (aliases : Aliases) (ms : List Mailing) (os list : List OrderIndex)
     → AreByFaction ms → AreIndicesByMailing is_of aliases ms os → IsPermutation os list
     → IsSortedByKey (key_by a) (slice_cmp nat_cmp) list

@@ -11,7 +11,7 @@ use Rattle.atl_phase.specs.Outcomes.{first_fault}
 pub false_true : {P : Type 0} → false ≡ true → P
 false_true e = cc
 
--- if no fault of a list fits, the test of the first one is false, and none of the others fits
+-- if no fault of a list fits, the test of the first one (`fits`) is false, and none of the others (`more`) fits
 pub none_fits : (fits : Bool) (fault : EventFault) (more : List (Bool × EventFault))
     → first_fault ((fits, fault) ∷ more) ≡ None → (fits ≡ false) × (first_fault more ≡ None)
 none_fits true fault more is = cc

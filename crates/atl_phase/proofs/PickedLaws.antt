@@ -75,8 +75,9 @@ module _ (wide is_of : Verb → Bool) (within : (v : Verb) → is_of v ≡ (wide
       ap (filter (has_verb is_of)) all ∙ sym (sorted-passing a (has_verb is_of) _ (all_apart a aliases wide readings))
       ∙ ap (sorted_by (key_of a)) (sym (picked_tasks (entries readings)))
 
-  -- The list that the code returns (r) has the orders of the phase, if it has those that are picked from the indices of
-  -- the orders of more verbs that count. The code reads the mailings `ms` as `ns`, and the indices `places` as `qs`.
+  -- Where the code's result r is Ok, its list has the orders of the phase, sorted as `a` says, if it has those picked
+  -- from `places`. These name all orders that count and have a verb that passes `wide`, sorted as `a` says. The code
+  -- reads the mailings `ms` as `ns`, and `places` as `qs`.
   pub picked_list : {Z E : Type 0} (a : Arrangement) (ms ns : List Mailing) (places qs : List OrderIndex) (r : Result (Vec PhaseOrder Z) E)
       → ns ≡ ms → qs ≡ places → AreOrderIndices wide a aliases ms places
       → IfOk r (λ list. map task_of list.items ≡ tasks_picked is_of ns qs)
@@ -87,7 +88,7 @@ module _ (wide is_of : Verb → Bool) (within : (v : Verb) → is_of v ≡ (wide
 
 -- The new list has the orders that are picked from the indices up to and with index i, if the old list has those picked
 -- from the indices before i. The new list is the old one and order o, which the index at i (p) names, if the verb of o
--- is the phase's (`b`), and else the old one.
+-- is the phase's (`is_of`, `b`), and else the old one.
 pub picked_more : (is_of : Verb → Bool) (ms : List Mailing) (places : List OrderIndex) (i : ℕ) (p : OrderIndex) (o : PhaseOrder) (list new : List PhaseOrder) (b : Bool)
     → i < length places → p ≡ get_or places i p → task_of o ≡ task_at ms p
     → map task_of list ≡ tasks_picked is_of ms (take i places) → is_of o.order.now.verb ≡ b

@@ -29,7 +29,7 @@ use Rattle.atl_phase.proofs.RefitLaws.{IsRefit, IsRelabelled, early-refitted, re
 use Rattle.atl_phase.proofs.StructureLaws.{changed_else, get-after_handover, handed_is, handed_on, len-after_handover, placed_cases}
 use Rattle.atl_phase.proofs.UnbookedLaws.{unbooked_well}
 
--- to map g over an option, and then f over the result, is to map f of g over it once
+-- to map g over an option o, and then f over the result, is to map f of g over o once
 pub mapped_twice : {A : Type 0} (f g : A → A) (o : Option A)
     → option_map f (option_map g o) ≡ option_map (λ y. f (g y)) o
 mapped_twice f g None = refl
@@ -91,8 +91,6 @@ module _ (w : WorldValue) (c : CampaignValue) (n : ℕ) (u : Unit) (s : ℕ) (is
       ap (with_place_at c n u.region s) is
       ∙ ap (λ b. if b then begun else after_entering) (other_number old_place s apart)
 
-  -- the campaign that the two handovers make (`after_entering`) is `placed_campaign`, the same campaign given as a
-  -- refit
   placed_campaign_is : after_entering ≡ placed_campaign
   placed_campaign_is =
       handed_is after_leaving s 0 n ∙ ap (λ (d : CampaignValue). record d { structures = after_entering.structures }) (handed_is begun old_place n next_owner)

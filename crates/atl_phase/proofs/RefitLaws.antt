@@ -81,8 +81,8 @@ module _ (c : CampaignValue) (units : FinMap nat_cmp Unit) (structures : FinMap 
     units = λ k l. no_unit k (old.units k l);
   }
 
--- unit n (u) of campaign c is put inside structure s (0 for none), and `structures` take the place of the old ones; g
--- makes of a structure's number and the structure before the structure after
+-- Unit n (u) of campaign c is put inside structure s (0 for none), and `structures` take the place of the old ones. g
+-- makes of a structure's number and the structure before the structure after.
 module _ (w : WorldValue) (c : CampaignValue) (n : ℕ) (u : Unit) (s : ℕ) (is : get c.units n ≡ Some u) (structures : FinMap nat_cmp Structure) (g : ℕ → Structure → Structure) where
   -- unit n as it is inside structure s
   abbrev pub moved_unit : Unit
@@ -95,8 +95,8 @@ module _ (w : WorldValue) (c : CampaignValue) (n : ℕ) (u : Unit) (s : ℕ) (is
   abbrev pub refitted : CampaignValue
   refitted = record c { units = units; structures = structures }
 
-  -- A refit: unit n is inside structure s of its region, or inside none (s is 0), and the structures are those that g
-  -- makes of the old ones, each changed in owner and name at most, and with its right owner.
+  -- A refit: unit n is inside structure s of its region, or inside none (s is 0). There are as many structures: those
+  -- that g makes of the old ones, each changed in owner and name at most, and with its right owner.
   pub record IsRefit : Type 0 where
     pub at : (k : ℕ) → get structures k ≡ option_map (g k) (get c.structures k)
     pub count : len structures ≡ len c.structures

@@ -48,7 +48,6 @@ module _ (aliases : Aliases) (faction line : ℕ) where
   left_out : (u : Task) (us : List Task) → is_at u ≡ false → filter is_at us ≡ [] → filter is_at (u ∷ us) ≡ []
   left_out u us fails rest = ap (λ b. cond b (u ∷ filter is_at us) (filter is_at us)) fails ∙ rest
 
-  -- of entries on lines above the line none is left
   none_above : (f index low : ℕ) (es : List EntryValue) → line ≤ low → LinesRise low es
       → filter is_at (tasks_from aliases f index es) ≡ []
   none_above f index low [] le rise = refl
@@ -57,7 +56,6 @@ module _ (aliases : Aliases) (faction line : ℕ) where
       (second_false (f == faction) (e.line == line) (other_number e.line line (λ same. let above = rise.0 in absurd (omega (arith, same, above, le)))))
       (none_above f (index + 1) e.line es (let above = rise.0 in omega (arith, above, le)) rise.1)
 
-  -- of another faction's entries none is left
   none_of : (f index : ℕ) (es : List EntryValue) → f ≢ faction → filter is_at (tasks_from aliases f index es) ≡ []
   none_of f index [] other = refl
   none_of f index (e ∷ es) other =
@@ -87,7 +85,7 @@ module _ (aliases : Aliases) (faction line : ℕ) where
       ap (λ b. cond b (first ∷ rest) rest) past ∙ one_left (index + 1) x.line i es e rise.1 is on
       ∙ ap (λ j. task_for aliases faction j e ∷ []) next
 
--- an order in a mailing isn't on line 0, if the mailings can be read with the world
+-- an order in a mailing isn't on line 0, if the mailings (`readings`) can be read with the world
 pub line_of_order : (w : WorldValue) (aliases : Aliases) (readings : FinMap nat_cmp Reading) → AreFit w readings
     → (t : Task) → IsInMailing aliases readings t → 0 < t.line
 line_of_order w aliases readings fit t there =
@@ -97,13 +95,13 @@ line_of_order w aliases readings fit t there =
 
 -- ---- the orders of a phase
 
--- to keep what passes two tests in turn is to keep it in the other order
+-- to keep of `us` what passes the test p, and of this what passes q, is to keep what passes q, and then p
 pub in_turn : (p q : Task → Bool) (us : List Task) → filter q (filter p us) ≡ filter p (filter q us)
 in_turn p q us =
     filter_both p q us ∙ filter_agree (λ u. p u && q u) (λ u. q u && p u) (λ u. and_comm (p u) (q u)) us
     ∙ sym (filter_both q p us)
 
--- a list of order t if the test holds, and else of no order, stays as it is when sorted by the numbers of `key_of`
+-- a list that has order t if b is true, and else no order, stays as it is when sorted by the numbers of `key_of a`
 pub alone : (t : Task) (a : Arrangement) (b : Bool)
     → values (from_entries {R = slice_cmp nat_cmp} (map (λ u. (key_of a u, u)) (cond b (t ∷ []) [])))
     ≡ cond b (t ∷ []) []
@@ -183,7 +181,6 @@ module _ (w : WorldValue) (aliases : Aliases) (readings : FinMap nat_cmp Reading
           ∙ ap₂ (λ xs ys. xs ++ ys) own (others_left es (higher es e.0 (sym faction) rise.0))
           ∙ nothing_after is_of_phase
         where
-          -- nothing comes after t
           nothing_after : (b : Bool) → cond b (t ∷ []) [] ++ [] ≡ cond b (t ∷ []) []
           nothing_after true = refl
           nothing_after false = refl

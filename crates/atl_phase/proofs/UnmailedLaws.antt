@@ -59,8 +59,8 @@ pub record ClosesUnmailed (meaning : Meaning) (keeps : Frame) : Type 0 where
   pub starved_reported : (w : WorldValue) (c : CampaignValue) (m : MonthValue) (n : ℕ)
       → starved_in m.events n ≤ starved_in (meaning w c m).1.events n
   -- If the phase keeps what `keeps` says, each unit of a faction without a mailing is left its faction and name, no
-  -- less of any item, and its men less exactly those whom the phase's events report as starved. No more starve than it
-  -- has. If all its men starve, it is removed instead (`IsLeft`).
+  -- less of any item, and its men less the starved. These are exactly those whom the phase's events report, and no more
+  -- than it has. If all its men starve, it is removed instead (`IsLeft`).
   pub left : (w : WorldValue) (c : CampaignValue) (m : MonthValue) → keeps w m c (meaning w c m).0 →
       Every (λ n u. get m.readings u.faction ≡ None → IsLeft (starved_in (meaning w c m).1.events n - starved_in m.events n) (meaning w c m).0 n u) c.units
 
@@ -110,8 +110,8 @@ module _ {first second : Meaning} {early late : Frame} where
         record { unit = b.unit; there = b.there; is_unaffected = less_twice _ _ _ u a.unit b.unit (one.starved_reported w c m n) (two.starved_reported w between.0 between.1 n) a.is_unaffected b.is_unaffected };
   }
 
-  -- If the first phase leaves such units their names, items and men less the starved (`LeavesUnmailed`), and the second
-  -- one also removes those all of whose men starve (`ClosesUnmailed`), both in turn do as the second one.
+  -- The first phase leaves such units their names, items and men less the starved (`LeavesUnmailed`). The second one
+  -- also removes those all of whose men starve (`ClosesUnmailed`). Then both in turn do as the second one.
   pub then_closes : LeavesUnmailed first early → ClosesUnmailed second late
       → ClosesUnmailed (then_also first second) (both_keep first early late)
   then_closes one two = record {
@@ -250,7 +250,7 @@ module _ {meaning : Meaning} {keeps : Frame} (readings : (w : WorldValue) (c : C
 
 -- ---- a phase whose orders are carried out one by one
 
--- no order of a phase is of a faction f without a mailing
+-- no order of a phase with the verbs that pass `is_of` is of a faction f without a mailing
 pub none_ordered : (is_of : Verb → Bool) (arrangement : Arrangement) (m : MonthValue) (f : ℕ) → get m.readings f ≡ None
     → All (λ t. t.faction ≢ f) (orders_of is_of arrangement m.aliases m.readings)
 none_ordered is_of arrangement m f none k d l same =
@@ -358,9 +358,9 @@ module _ (step : OrderMeaning) where
 pub own_faction : (t : Task) (n f : ℕ) → IsOwnOrder t n f → t.faction ≡ f
 own_faction t n f h = h.faction
 
--- If units that no order of the phase affects change from c to d at most as `unaffected` allows, units of factions
+-- Units that no order of the phase affects change from c to d at most as `unaffected` allows. Then units of factions
 -- without a mailing are still there, with their names and no less of any item (`HasItsItems`). For this only orders of
--- its own faction may affect a unit, and `unaffected` must keep name and items.
+-- its own faction may affect a unit, and `unaffected` must keep name and items. `is_of` tests for the phase's verbs.
 pub unmailed_keep_items : {affects : Affects} {unaffected : Unaffected} (is_of : Verb → Bool)
     → ((t : Task) (n f : ℕ) → affects t n f → t.faction ≡ f) → ((u v : Unit) → unaffected u v → HasItsItems u v)
     → (w : WorldValue) (c d : CampaignValue) (m : MonthValue) → others_unaffected affects unaffected is_of w m c d

@@ -62,10 +62,8 @@ pub record StepsWell (holds : Condition) (remaining : RemainingBound) (w : World
 -- the relation `unaffected`, of a unit before to the unit after, is reflexive and transitive, and relates only units of
 -- the same faction
 pub record IsUnaffectedRelation (unaffected : Unaffected) : Type 0 where
-  -- `unaffected` relates each unit to itself, so a unit that doesn't change is unaffected
   pub same : (u : Unit) → unaffected u u
   pub transitive : (u v x : Unit) → unaffected u v → unaffected v x → unaffected u x
-  -- `unaffected` relates only units of the same faction, so an unaffected unit keeps its faction
   pub faction : (u v : Unit) → unaffected u v → v.faction ≡ u.faction
 
 -- unit u is there under the number that an order is for, and is of the faction that wrote the order
@@ -88,7 +86,7 @@ pub record IsOrderly (step : OrderMeaning) (holds : Condition) (remaining : Rema
   -- `unaffected` can be used over several orders: it is reflexive, transitive, and keeps the faction
   pub unaffected_is_relation : IsUnaffectedRelation unaffected
   -- if `holds` is true before an order for a unit of its writer's faction, each unit that it doesn't affect is there
-  -- after it, and `unaffected` relates what the unit was to what it is then
+  -- after it, and `unaffected` relates what the unit was to what it is
   pub is_unaffected : (w : WorldValue) (a : Aliases) (c : CampaignValue) (t : Task) (x : Unit) → holds w c → IsUnitOf c t x →
       (n : ℕ) (u : Unit) → get c.units n ≡ Some u → (affects t n u.faction → ⊥) →
       IfSome (step w a t) (λ effect. IsStillThere unaffected (effect c x).0 n u)
@@ -101,8 +99,8 @@ pub record IsOrderly (step : OrderMeaning) (holds : Condition) (remaining : Rema
 abbrev pub nothing_remaining : RemainingBound
 nothing_remaining c = moves_nothing
 
--- the bound on the books for listed items, each a number with an amount: under Lost an item may move by at most the sum
--- of its listed amounts, and no other amount of the books moves
+-- The bound on the books for listed items, each a number with an amount. Under Lost an item may move by at most the sum
+-- of its listed amounts, and no other amount of the books moves.
 abbrev pub items_bound : List (ℕ × ℕ) → BookBound
 items_bound [] e t = 0
 items_bound (x ∷ xs) e t = moves_only x.1 Lost (Item x.0) e t + items_bound xs e t

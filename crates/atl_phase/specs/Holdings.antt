@@ -18,7 +18,6 @@ pub record ChangesHolding (before after : MarkedCampaign) (n : ℕ) (change : Ho
 -- a change marks no items: the marks of single items, and those of all items and days of a unit at once, stay as they
 -- were
 pub record MarksNoItems (before after : Marks) : Type 0 where
-  -- the marks of goods, each for all items and days of a unit at once, are those from before
   pub goods : after.goods ≡ before.goods
   pub items : after.items ≡ before.items
 
@@ -27,7 +26,7 @@ pub record MarksNoItems (before after : Marks) : Type 0 where
 abbrev pub MarksNoGoods : Marks → Marks → Type 0
 MarksNoGoods before after = MarksNoItems before after × (after.skills ≡ before.skills)
 
--- the days of study by skill (`days`), with those of each listed skill set to the number beside it; of two pairs of one
--- skill the later counts, and the result has no skill that is set to 0
+-- The days of study by skill (`days`), with those of each listed skill set to the number beside it. Of two pairs of one
+-- skill the later counts, and the result has no skill that is set to 0.
 abbrev pub with_days : FinMap nat_cmp ℕ → List (ℕ × ℕ) → FinMap nat_cmp ℕ
 with_days days list = fold (λ all e. with_amount_of all e.0 e.1) days list

@@ -52,8 +52,8 @@ effect_on effect c (Some u) = effect c u
 abbrev pub faction_effect : OrderEffect → CampaignValue → (faction n : ℕ) → CampaignValue × Outcome
 faction_effect effect c faction n = effect_on effect c (of_faction faction (get c.units n))
 
--- the campaign after a faction's order for unit n, and its outcome; an order that is passed over (None) changes nothing
--- and has no outcome
+-- the campaign after a faction's order for unit n, and its outcome (`faction_effect`); an order that is passed over
+-- (None) changes nothing and has no outcome
 abbrev pub order_result : Option OrderEffect → CampaignValue → (faction n : ℕ) → CampaignValue × Option Outcome
 order_result None c faction n = (c, None)
 order_result (Some effect) c faction n = let after = faction_effect effect c faction n in (after.0, Some after.1)

@@ -100,7 +100,7 @@ task_at mailings p = record {
       (slice_index_or (mailing_at mailings p.mailing).entries p.index no_entry).order;
 }
 
--- the mailing that an index names is there, and so is the order that it names in this mailing
+-- the mailing that the index p names is there, and so is the order that it names in this mailing
 pub record IsThere (mailings : List Mailing) (p : OrderIndex) : Type 0 where
   pub mailing : p.mailing < length mailings
   pub entry : p.index < length (mailing_at mailings p.mailing).entries
@@ -116,8 +116,8 @@ pub record AddsIndicesOf (mailings : List Mailing) (ts : List Task) (old new : L
   pub there : All (IsThere mailings) old → All (IsThere mailings) new
   pub tasks : map (task_at mailings) new ≡ map (task_at mailings) old ++ ts
 
--- the new indices name the orders of the old ones, and after them those of the mailing at an index of the list that
--- count and have one of a phase's verbs; all are there, if the old ones are (`AddsIndicesOf`)
+-- The new indices name the orders of the old ones, and after them those of the mailing at an index of the list that
+-- count and have one of a phase's verbs. All are there, if the old ones are (`AddsIndicesOf`).
 abbrev pub AddsMailing : (Verb → Bool) → Aliases → List Mailing → ℕ → List OrderIndex → List OrderIndex → Type 0
 AddsMailing is_of aliases mailings index = AddsIndicesOf mailings (tasks_for is_of (tasks_at aliases mailings index))
 
@@ -136,7 +136,7 @@ abbrev pub tasks_picked : (Verb → Bool) → List Mailing → List OrderIndex �
 tasks_picked is_of mailings places = filter (has_verb is_of) (map (task_at mailings) places)
 
 -- The invariant of a month: its mailings, no two of one faction, are sorted by faction. The indices that were gathered,
--- if any were, name all orders that count, sorted by unit, line and faction.
+-- if any were, name all orders that count, sorted by unit, line and faction; Z is the type of their allocator.
 pub record IsSortedMonth {Z : Type 0} (aliases : Aliases) (mailings : List Mailing)
     (gathered_indices : Option (Vec OrderIndex Z)) : Type 0 where
   pub sorted : AreByFaction mailings

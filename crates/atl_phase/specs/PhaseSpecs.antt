@@ -95,7 +95,7 @@ book_bound_of (phase ∷ []) = phase.book_bound
 book_bound_of (phase ∷ next ∷ rest) = both_move phase.book_bound (book_bound_of (next ∷ rest))
 
 -- what phases in turn keep together: each keeps what its own specification says, from the campaign and the month that
--- the phases before it made
+-- the phases before it made; of an empty list of phases it says nothing
 abbrev pub keeps_of : List PhaseSpec → Frame
 keeps_of [] = λ w m before after. ⊤
 keeps_of (phase ∷ []) = phase.keeps

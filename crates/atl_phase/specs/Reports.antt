@@ -37,9 +37,8 @@ is_from faction line r = r.faction == faction && r.line == line
 abbrev pub HasOneEvent : List Event → Task → Type 0
 HasOneEvent events t = filter (is_from t.faction t.line) (map report_of events) ≡ report_for t ∷ []
 
--- an order counts: it is in its faction's mailing, and if its verb has a slot, it is the last one there for its unit in
--- this slot
+-- An order counts: it is in its faction's mailing, and if its verb has a slot, no order there for its unit in this slot
+-- is on a later line. `readings` has what was read of the mailings.
 pub record Counts (aliases : Aliases) (readings : FinMap nat_cmp Reading) (t : Task) : Type 0 where
   pub there : IsInMailing aliases readings t
-  -- the order counts among the orders of the mailing
   pub counts : order_counts (tasks_of aliases t.faction there.reading) t ≡ true

@@ -7,8 +7,8 @@ ghost use Rattle.atl_phase.specs.Bounds.{HasRoom};
 
 use atl_campaign::{BooksEntry, Campaign, Thing};
 
-/// Books an amount of a thing as taken out of the campaign, under an entry. The books must have the
-/// thing, and room for the amount. It takes no memory.
+/// Books an amount of a thing as gone out of the campaign, under an entry, and marks that amount of
+/// the books. The books must have the thing, and room for the amount. It takes no memory.
 pub fn book_taken(campaign: &mut Campaign, entry: BooksEntry, thing: Thing, amount: u32)
     requires there { thing_index thing < campaign.old.value.books.things }
     requires room { HasRoom amount (amount_in campaign.old.value.books entry thing) }

@@ -1,5 +1,5 @@
 //! Which orders of a mailing count: of some verbs only the last one for a unit. See docs/RULES.md,
-//! "Orders of a month".
+//! "Orders of a month". `aliases` has the units that FORM made, by faction and then by alias.
 ghost use Rattle.std.specs.Prelude.{◌≡◌, IfOk, OnOk};
 ghost use Rattle.atl_orders.specs.Mailing.{reading_of};
 ghost use Rattle.atl_phase.specs.PhaseOrders.{unit_of, slot_number, is_same_slot, tasks_of};

@@ -119,8 +119,8 @@ impl Month {
         Ok(())
     }
 
-    /// Notes the unit that a faction's FORM made under an alias, and drops what `gather` stored.
-    /// Without memory the month's value stays the same.
+    /// Notes the unit that a faction's FORM made under an alias, instead of an older one, and drops
+    /// what `gather` stored. Without memory the month's value stays the same.
     pub fn set_alias(
         &mut self,
         alloc: Global,
@@ -156,7 +156,7 @@ impl Month {
 
     /// The orders that count and have a verb of the phase, sorted by unit or by faction first, as
     /// `arrangement` says. It takes memory for each of them. If the month's orders aren't gathered,
-    /// or not in this arrangement, it takes more: n log n steps for n orders of the phase, and
+    /// or not in this arrangement, it takes n log n steps for n orders of the phase. It then takes
     /// memory for each order of the mailings that have one with a verb of the phase. See
     /// docs/RULES.md, "Orders of a month".
     pub fn orders<P: PhaseVerbs>(

@@ -1,5 +1,5 @@
-//! Finds the orders of all mailings that count for a phase, and sorts their indices. See
-//! docs/RULES.md, "Orders of a month".
+//! Finds the orders of all mailings that count for a phase, and sorts their indices. `aliases` has
+//! the units that FORM made, by faction and alias. See docs/RULES.md, "Orders of a month".
 ghost use Rattle.std.specs.Prelude.{◌≡◌, ◌<◌, ◌&&◌, length, IfOk, OnOk};
 ghost use Rattle.std.specs.List.{list_any};
 ghost use Rattle.std.specs.List.Sorted.{IsPermutation, IsSortedByKey};

@@ -48,8 +48,8 @@ pub trait OrderPhase: PhaseVerbs {
     /// passes it over. Before it `holds` is true, and the books have room for what may still be
     /// booked (`remaining`). The order has a verb of the phase, and is such as can be read with the
     /// world. An order for a unit that isn't there, or is another faction's, changes nothing, and
-    /// is NotYours unless it is passed over. AllocError without memory; the campaign may then be
-    /// changed in part. See docs/RULES.md, "Orders of a month".
+    /// is NotYours unless it is passed over. What changes is marked. AllocError without memory; the
+    /// campaign may then be changed in part. See docs/RULES.md, "Orders of a month".
     fn carry_out(
         &self,
         alloc: Global,
@@ -99,7 +99,8 @@ pub fn own_unit<'c>(campaign: &'c Campaign, order: PhaseOrder<'_>) -> Option<&'c
     }
 }
 
-/// Carries out an order, and adds its event to `events`; one that is passed over has no event.
+/// Carries out an order of the phase that can be read with the world, and adds its event, unless it
+/// is passed over. Before it `holds` is true, and the books have room for `remaining`.
 fn carry_one<P: OrderPhase>(
     alloc: Global,
     phase: &P,
@@ -127,8 +128,10 @@ fn carry_one<P: OrderPhase>(
 
 /// Carries out the orders of a phase one by one, by unit, line and faction, and adds their events.
 /// Before it `holds` is true, the books have room for the phase, and the orders are such as can be
-/// read with the world. AllocError without memory; campaign and month may then be changed in part.
-/// See docs/RULES.md, "Orders of a month".
+/// read with the world. After it `holds` is still true, and the readings are the same. No amount of
+/// the books moved further than `book_bound`, units that no order affects changed as `unaffected`
+/// allows, and all changes are marked. AllocError without memory; campaign and month may then be
+/// changed in part. See docs/RULES.md, "Orders of a month".
 pub fn carry_out_orders<P: OrderPhase>(
     alloc: Global,
     phase: &P,

@@ -45,6 +45,7 @@ impl PhaseVerbs for EveryVerb {
     }
 }
 
+/// The order that an index names; it is there.
 fn order_at<'m>(mailings: &'m [Mailing], placed: &OrderIndex) -> PhaseOrder<'m>
     requires { IsThere mailings.now placed.now }
     ensures { task_of result ≡ task_at mailings.now placed.now }
@@ -61,6 +62,8 @@ fn order_at<'m>(mailings: &'m [Mailing], placed: &OrderIndex) -> PhaseOrder<'m>
     }
 }
 
+/// The orders that `places` name and that have a verb of the phase, in the order of `places`. Each
+/// place names an order that is there.
 pub(crate) fn phase_orders_at<'m, P: PhaseVerbs>(
     alloc: Global,
     phase: &P,

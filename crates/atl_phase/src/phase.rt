@@ -35,7 +35,8 @@ pub trait Phase {
 
     /// Runs the phase, and returns the campaign and the month as it leaves them. The campaign is as
     /// `needs` says, the books have room for the phase, and the orders are such as can be read with
-    /// the world. AllocError without memory; campaign and month are then given up.
+    /// the world. What was read of the mailings stays, what changes is marked, and no mark is lost.
+    /// AllocError without memory; campaign and month are then given up.
     fn run(&self, alloc: Global, world: &World, campaign: Campaign, month: Month) -> PhaseResult
         requires needs { needs world.now campaign.value }
         requires room { HaveRoom book_bound campaign.value }

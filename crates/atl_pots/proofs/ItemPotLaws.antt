@@ -69,8 +69,7 @@ module _ (asked_item : ℕ → Option ℕ) (pot_of : (item region : ℕ) → ℕ
       other apart None = refl
       other apart (Some s) = found_other (e.0, s) (of_wants es) n apart
 
-  -- the definition's map of all shares (`item_shares`) has under each number the share of that unit (`item_share`), or
-  -- nothing
+  -- the definition's map of all shares (`item_shares`) has under each number that unit's share (`item_share`), if any
   pub shares_at : (n : ℕ) → get (item_shares asked_item pot_of wants c) n ≡ gets n
   shares_at n =
       get-from_entries nat_cmp_total (of_wants (entries wants)) n ∙ found_listed (entries wants) n

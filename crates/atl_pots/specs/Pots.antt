@@ -1,6 +1,5 @@
--- What each unit gets of the pot of its region, and the laws of it. In the laws `pot_of` gives the pot of a region, by
--- its number. `wants` has how much each unit wants of it, by unit. Unit order is by rising number. See docs/RULES.md,
--- "Pots".
+-- What each unit gets of its region's pot, and the laws of it. In the laws `pot_of` gives the pot of a region by its
+-- number. `wants` has, by unit, how much it wants of it. Unit order is by rising number. See docs/RULES.md, "Pots".
 use Rattle.std.specs.Prelude.{◌≡◌, ◌≤◌, ◌==◌, ℕ, Bool, false, List, map, sum, min, unwrap_or, Option, Some, option_map}
 use Rattle.std.specs.List.{flat_map, zip}
 use Rattle.std.specs.Option.{option_map_or}
@@ -20,8 +19,7 @@ AreWants wants = Every (λ number want. want ≤ most_amount) wants
 abbrev pub asks_for : (pot : ℕ) → (asked : Option ℕ) → Bool
 asks_for pot asked = option_map_or (λ other. other == pot) asked false
 
--- the wants, by unit, of those units that ask for a pot; `asked_by` has the number of the pot that a unit asks for, if
--- any
+-- the wants, by unit, of the units that ask for a pot; `asked_by` has the number of the pot that each asks for, if any
 abbrev pub wants_for : (asked_by : ℕ → Option ℕ) → FinMap nat_cmp ℕ → (pot : ℕ) → FinMap nat_cmp ℕ
 wants_for asked_by wants pot = retain_keys wants (λ number. asks_for pot (asked_by number))
 
@@ -49,8 +47,7 @@ wants_in wants units region = amounts_of (wants_at wants units region)
 abbrev pub shares_of : (pot : ℕ) → FinMap nat_cmp ℕ → List (ℕ × ℕ)
 shares_of pot wants = zip (keys wants) (shares pot (amounts_of wants))
 
--- a region's units that have a want, each with its share of the region's pot, in unit order; `pot_of` has the pot of
--- each region
+-- a region's units that have a want, each with its share of the region's pot, in unit order; `pot_of` has each pot
 abbrev pub shares_in : (ℕ → ℕ) → FinMap nat_cmp ℕ → FinMap nat_cmp Unit → ℕ → List (ℕ × ℕ)
 shares_in pot_of wants units region = shares_of (pot_of region) (wants_at wants units region)
 
@@ -91,8 +88,7 @@ EachTakerGets =
     → HasValue c.regions u.region
     → (share : ℕ) × (share_of pot_of wants c number ≡ Some share) × (share ≤ want)
 
--- the law that, in a region of the campaign, the units that have a want get the shares of its pot by their wants, in
--- unit order
+-- the law that in a region of the campaign units with a want get the shares of its pot by their wants, in unit order
 abbrev pub SharesEachPot : Type 0
 SharesEachPot =
     (pot_of : ℕ → ℕ) (wants : FinMap nat_cmp ℕ) (c : CampaignValue) (region : ℕ)
@@ -100,8 +96,7 @@ SharesEachPot =
     → map (share_of pot_of wants c) (takers_in wants c.units region)
     ≡ map Some (shares (pot_of region) (wants_in wants c.units region))
 
--- the law that the units of a region of the campaign together get its whole pot, or all that they want where that is
--- less
+-- the law that the units of a region of the campaign get its whole pot together, or all that they want if that is less
 abbrev pub GivesEachPot : Type 0
 GivesEachPot =
     (pot_of : ℕ → ℕ) (wants : FinMap nat_cmp ℕ) (c : CampaignValue) (region : ℕ)
@@ -109,9 +104,8 @@ GivesEachPot =
     → sum (map (amount_given pot_of wants c) (takers_in wants c.units region))
     ≡ min (pot_of region) (sum (wants_in wants c.units region))
 
--- The law that the shares in a region follow from its pot, its units with a want and their wants alone. Where two
--- campaigns (`c`, `other`) have the region, with equal ones of these, the shares there are equal, whatever differs in
--- other regions.
+-- The law that the shares in a region follow from its pot, its units with a want and their wants alone: where two
+-- campaigns (`c`, `other`) have the region, and there these are equal, the shares there are equal.
 abbrev pub OtherRegionsDoNotCount : Type 0
 OtherRegionsDoNotCount =
     (pot_of other_pots : ℕ → ℕ) (wants other_wants : FinMap nat_cmp ℕ) (c other : CampaignValue) (region : ℕ)

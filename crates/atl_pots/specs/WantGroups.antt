@@ -13,8 +13,7 @@ use Rattle.atl_pots.specs.Pots.{region_of_unit, shares_of}
 abbrev pub WantGroups : Type 0
 WantGroups = FinMap nat_cmp (FinMap nat_cmp ℕ)
 
--- the groups with the want of a pair (unit, want) put under the pot that the unit asks for; unchanged where it asks for
--- none
+-- the groups with the want of a pair (unit, want) put under the pot that the unit asks for; unchanged if there is none
 abbrev pub with_want : (asked_by : ℕ → Option ℕ) → WantGroups → ℕ × ℕ → WantGroups
 with_want asked_by groups e =
     option_map_or (λ pot. insert groups pot (insert (group_of groups pot) e.0 e.1)) (asked_by e.0) groups

@@ -1,5 +1,6 @@
 //! Shares the pots of all regions at once, each among the units in its region. Unit order is by
-//! rising number. See docs/RULES.md, "Pots".
+//! rising number. Where a call shares pots, these and all wants are at most 999,999,999, and `pots`
+//! is `ready`. `given` has the shares so far, by unit. See docs/RULES.md, "Pots".
 ghost use Rattle.std.specs.Prelude.{◌≡◌, ◌≤◌, All, IfOk, OnOk, length};
 ghost use Rattle.std.specs.List.{zip};
 ghost use Rattle.std.specs.FinMap.{entries, keys};
@@ -37,8 +38,7 @@ pub trait AskedPots {
     // The number of the pot that a unit asks for, by the unit's number; None if it asks for none.
     ghost asked_by: { Self → ℕ → Option ℕ };
 
-    /// The number of the pot that a unit asks for: that of a region or of an item; None if it asks
-    /// for none.
+    /// The number of the pot, a region or an item, that a unit asks for; None if it asks for none.
     fn asked(&self, unit: u32) -> Option<u32>
         ensures { result ≡ asked_by self.now unit };
 }
@@ -76,6 +76,7 @@ fn note_want<A: AskedPots>(
     }
 }
 
+/// The wants, grouped by the pots that units ask for; without those of units that ask for none.
 pub(crate) fn group_wants<A: AskedPots>(
     alloc: Global,
     asked: &A,
@@ -119,6 +120,7 @@ fn put_shares(
     Ok(())
 }
 
+/// Puts the shares of one pot among the units in `wants` into `given`.
 #[tactic(auto, using(crate::proofs::PotLaws::amounts_are_low))]
 fn share_pot(
     alloc: Global,
@@ -135,8 +137,7 @@ fn share_pot(
     put_shares(wants, &shares, given)
 }
 
-/// Puts the shares of the region's pot into `given`, by unit; none where the region isn't in the
-/// campaign.
+/// Puts the shares of a region's pot into `given`; none where the campaign has no such region.
 fn share_region<P: Pots>(
     alloc: Global,
     campaign: &Campaign,
@@ -157,6 +158,7 @@ fn share_region<P: Pots>(
     share_pot(alloc, pots.pot(region), wants, given)
 }
 
+/// Puts what units get of the pots of their regions into `given`.
 #[tactic(auto, using(crate::proofs::WantGroupLaws::groups_are_wants))]
 pub(crate) fn share_regions<P: Pots>(
     alloc: Global,

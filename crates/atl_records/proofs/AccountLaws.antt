@@ -53,6 +53,7 @@ less_is_not_equal e = cc
 greater_is_not_equal : {P : Type 0} → Greater ≡ Equal → P
 greater_is_not_equal e = cc
 
+-- accounts that account_cmp finds equal are equal
 pub account_same : IsAntisymmetric account_cmp
 account_same a b is =
     elim (nat_cmp (entry_index a.0) (entry_index b.0)) as (λ o. nat_cmp (entry_index a.0) (entry_index b.0) ≡ o → ordering_then o (nat_cmp (thing_index a.1) (thing_index b.1)) ≡ Equal → a ≡ b) [

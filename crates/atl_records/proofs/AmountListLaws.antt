@@ -23,9 +23,11 @@ use Rattle.atl_world.proofs.GeneralLaws.{is_true}
 
 -- ---- sorted accounts
 
+-- an account is less than each of a list, by account_cmp
 abbrev pub IsLessThanAll : Account → List Account → Type 0
 IsLessThanAll a chosen = AllByRecursion (λ c. account_cmp a c ≡ Less) chosen
 
+-- each account of a list is less than all after it
 abbrev pub AreSortedAccounts : List Account → Type 0
 AreSortedAccounts [] = ⊤
 AreSortedAccounts (a ∷ others) = IsLessThanAll a others × AreSortedAccounts others
@@ -127,8 +129,7 @@ module _ (amount : Account → ℤ) where
         | false ↦ ap (λ b. b && is_sorted account_cmp rest) (after_listed c others h.0) ∙ sorted_listed others h.1
       ]
 
-  -- in what `listed_of` keeps, each account of the list is found with its amount if this isn't 0, and no other account
-  -- is
+  -- in what `listed_of` keeps, each account of the list is found with its amount if this isn't 0, and no other is
   find-listed : (a : Account) (chosen : List Account)
       → find account_cmp a (listed_of amount chosen)
       ≡ cond (list_any (eq_by_cmp account_cmp a) chosen) (listing_of (amount a)) None

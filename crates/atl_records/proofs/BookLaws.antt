@@ -59,6 +59,7 @@ module _ (books : BooksValue) (e : BooksEntry) (t : Thing) (z : ℤ) where
         | false ↦ get-insert account_total books.amounts (e, t) z a
       ]
 
+  -- the amount of thing u under entry f is then z, if these are t and e, and else what it was
   pub amount-with_amount : (f : BooksEntry) (u : Thing)
       → amount_in (with_amount books e t z) f u ≡ cond (eq_by_cmp account_cmp (f, u) (e, t)) z (amount_in books f u)
   amount-with_amount f u =
@@ -75,6 +76,7 @@ module _ (books : BooksValue) (e : BooksEntry) (t : Thing) (z : ℤ) where
       → amount_in (with_amount books e t z) f u ≡ amount_in books f u
   other_amount f u apart = amount-with_amount f u ∙ ap (λ b. cond b z (amount_in books f u)) apart
 
+  -- the books still list only amounts of their things that aren't 0 (`AreBooks`), if t is one of these things
   pub AreBooks-with_amount : (things : ℕ) → AreBooks things books → thing_index t < things
       → AreBooks things (with_amount books e t z)
   AreBooks-with_amount things old there =
@@ -89,6 +91,7 @@ module _ (books : BooksValue) (e : BooksEntry) (t : Thing) (z : ℤ) where
         ];
       }
 
+-- books still list only amounts of their things that aren't 0 (`AreBooks`), if n is booked of one of these things
 pub AreBooks-after_booking : (things : ℕ) (books : BooksValue) (e : BooksEntry) (t : Thing) (n : ℤ)
     → AreBooks things books → thing_index t < things → AreBooks things (after_booking books e t n)
 AreBooks-after_booking things books e t n old there =

@@ -219,6 +219,7 @@ booked-as_books rows t grid there =
 
 -- ---- for the code of Books
 
+-- a thing that the books of the rows have has a row
 pub grid_there : (rows : List (List ℤ)) (books : BooksValue) (t : Thing) → as_books rows ≡ books
     → thing_index t < books.things → thing_index t < length rows
 grid_there rows books t is there = let size = ap (λ (b : BooksValue). b.things) (sym is) ∙ things-as_books rows in omega (arith, size, there)

@@ -25,6 +25,7 @@ every_amount P items i amount here old = by_zero (amount == 0) refl
     by_zero true is = every-remove items i P old
     by_zero false is = let some : 1 ≤ amount = grind (arith, nat_tests) in every-insert P items i amount (here some) old
 
+-- once `amount` is set under i, the amount under j is this one if j is i, and else what it was
 pub amount_after_setting : (items : FinMap nat_cmp ℕ) (i amount j : ℕ)
     → amount_of (with_amount_of items i amount) j ≡ cond (eq_by_cmp nat_cmp j i) amount (amount_of items j)
 amount_after_setting items i amount j = by_zero (amount == 0) refl
@@ -78,6 +79,7 @@ module _ (items : FinMap nat_cmp ℕ) (i amount : ℕ) where
       by_zero true = get-remove_other items i j apart
       by_zero false = get-insert_other items i j amount apart
 
+  -- setting an amount that the map has already leaves the map as it is
   pub set_again : has_amount items i amount ≡ true → with_amount_of items i amount ≡ items
   set_again has = by_entry (get items i) refl has
     where
@@ -103,8 +105,7 @@ AreAmounts-set (Ok u) old new item amount h put same is =
     (every_amount (λ i n. (1 ≤ n) × (n ≤ holding_limit)) old item amount (λ some. (some, h)) is)
 AreAmounts-set (Err e) old new item amount h put same is = subst AreAmounts (sym same) is
 
--- Each amount stays from 1 to holding_limit when one in this range is inserted, and also where the call fails. r is the
--- call's result.
+-- each amount stays from 1 to holding_limit if one in this range is inserted, and also if the call, of result r, fails
 pub AreAmounts-put : {E : Type 0} (r : Result (Unit {0}) E) (old new : FinMap nat_cmp ℕ) (item amount : ℕ)
     → (1 ≤ amount) × (amount ≤ holding_limit) → OnOk r (new ≡ insert old item amount) → OnErr r (new ≡ old)
     → AreAmounts old → AreAmounts new

@@ -32,6 +32,7 @@ module _ {V : Type 0} (m : FinMap nat_cmp V) (k : ℕ) where
         | Greater ↦ λ o. let l = ranked k k Greater (sym o) in absurd (omega arith)
       ] refl
 
+  -- what the map has after the removal it had before, under another number than k
   pub still : (n : ℕ) (v : V) → get (remove m k) n ≡ Some v → (n ≢ k) × (get m n ≡ Some v)
   still n v is =
       elim (nat_cmp n k) as (λ o. nat_cmp n k ≡ o → cond (is_eq o) None (get m n) ≡ Some v → (n ≢ k) × (get m n ≡ Some v)) [
@@ -51,6 +52,7 @@ module _ {V : Type 0} (m : FinMap nat_cmp V) (k : ℕ) where
       less true x y h = omega arith
       less false x y h = omega arith
 
+  -- taking out v, the value under k, lowers the sum by f v
   pub sum_over-remove : (f : V → ℕ) (v : V) → get m k ≡ Some v → sum_over f (remove m k) + f v ≡ sum_over f m
   sum_over-remove f v is =
       sym (sum_over-insert_new f (remove m k) k v get-remove_same) ∙ ap (sum_over f) (sym (put_back_keeps_map m k v is))

@@ -38,8 +38,7 @@ is_listed (Some listed) amount = not (amount == 0) && listed == amount
 abbrev pub has_amount : FinMap nat_cmp ℕ → ℕ → ℕ → Bool
 has_amount items item amount = is_listed (get items item) amount
 
--- `with_amount_of items item amount`: the amounts with the one under the number `item` set to `amount`; an amount of 0
--- is not listed
+-- `with_amount_of items item amount`: the amounts with that under the number `item` set to `amount`; 0 is not listed
 abbrev pub with_amount_of : FinMap nat_cmp ℕ → ℕ → ℕ → FinMap nat_cmp ℕ
 with_amount_of items item amount = if amount == 0 then remove items item else insert items item amount
 

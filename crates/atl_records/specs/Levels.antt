@@ -19,8 +19,7 @@ greatest passes (suc n) = if passes (suc n) then suc n else greatest passes n
 abbrev pub days_for : ℕ → ℕ → ℕ
 days_for level men = level_days * level * (level + 1) * men
 
--- `level_of days men`: the level of men by their days of study together, the greatest from 0 to 5 for which these are
--- enough; 0 without men
+-- `level_of days men`: the greatest level from 0 to 5 for which the men's days of study together suffice; 0 without men
 unfoldable pub level_of : ℕ → ℕ → ℕ
 level_of days men = if men == 0 then 0 else greatest (λ level. nat_le (days_for level men) days) last_level
 

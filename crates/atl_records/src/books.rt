@@ -92,7 +92,7 @@ impl BooksEntry {
 }
 
 impl Thing {
-    /// The number of a thing: 0 for money, 1 for people, 2 + i for the world's item with index i.
+    /// A thing's number, below 65,538: 0 for money, 1 for people, 2 + i for the item with index i.
     pub fn number(self) -> u32
         ensures value { result ≡ thing_index self }
         ensures small { result < possible_things }
@@ -104,8 +104,7 @@ impl Thing {
         }
     }
 
-    /// The thing with a number below 65,538: 0 is money, 1 is people, and 2 + i is the item with
-    /// index i.
+    /// The thing with a number below 65,538: 0 is money, 1 people, and 2 + i the item with index i.
     pub fn of_number(number: usize) -> Thing
         requires { number < possible_things }
         ensures { result ≡ thing_at number }

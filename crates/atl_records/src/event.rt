@@ -26,8 +26,7 @@ impl EventVerb {
     }
 }
 
-/// Why an order isn't carried out. It then changes nothing of the campaign. See docs/RULES.md,
-/// "Events".
+/// Why an order isn't carried out. It changes nothing of the campaign. See docs/RULES.md, "Events".
 #[derive(Drop, Clone, Copy, Debug, PartialEq, Eq)]
 pub enum EventFault {
     /// The unit isn't there, or the unit or the receiver of TRANSFER is another faction's.

@@ -55,8 +55,7 @@ impl Model for Holding {
     }) };
 }
 
-/// The amount that a map has under a number (pieces of an item, days of a skill), 0 where it has
-/// none.
+/// The amount that a map has under a number (pieces of an item, days of a skill), 0 without one.
 pub fn amount_under(amounts: &Numbered<u32>, number: u32) -> u32
     ensures { result ≡ amount_of amounts.now number }
 {
@@ -192,8 +191,7 @@ impl Holding {
     }
 
     /// Sets how many pieces of an item are held, at most HOLDING_LIMIT. An amount of 0 takes the
-    /// item off the list, which takes no memory. AllocError without memory, and then nothing
-    /// changes.
+    /// item off the list, which takes no memory. AllocError without memory; then nothing changes.
     pub fn set_amount(&mut self, item: u32, amount: u32) -> Result<(), AllocError>
         requires { amount ≤ holding_limit }
         ensures ok { OnOk result
@@ -251,8 +249,7 @@ impl Holding {
         self.guard = guard;
     }
 
-    /// Replaces the unit's days of study in all skills by new ones, which are over all men. It
-    /// takes no memory.
+    /// Replaces the days of study in all skills by new ones, over all men. It takes no memory.
     pub fn set_all_days(&mut self, days: Numbered<u32>)
         ensures { self.new ≡ record self.old { days = days } }
     {

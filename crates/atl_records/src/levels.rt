@@ -1,4 +1,6 @@
-//! Levels of skills, and what units weigh and carry. See docs/RULES.md, "Levels and loads".
+//! Levels of skills, and what units weigh and carry. A piece of an item weighs, and carries, up to
+//! `most_weight`, and a unit's goods at most `most_u32 * most_weight * most_items`. See
+//! docs/RULES.md, "Levels and loads".
 ghost use Rattle.std.specs.Prelude.{◌≡◌, ◌≤◌, ◌*◌, nat_le};
 ghost use Rattle.atl_world.specs.Limits.{last_level, most_items, most_weight};
 ghost use Rattle.atl_records.specs.Limits.{most_u32};
@@ -9,6 +11,7 @@ use crate::limits::LEVEL_DAYS;
 use atl_world::World;
 use atl_world::limits::LAST_LEVEL;
 
+/// Whether `days` days of `men` men together are enough for a level, which is at most `LAST_LEVEL`.
 fn is_reached(level: u32, days: u32, men: u32) -> bool
     requires { level ≤ last_level }
     ensures { result ≡ nat_le (days_for level men) days }
@@ -93,6 +96,7 @@ enum Measure {
     Carry,
 }
 
+/// The weight of one piece of an item, or what it carries, as `of` says; 0 without such an item.
 fn item_measure(world: &World, item: u32, of: Measure) -> u32
     ensures value { result ≡ measure_of of world.now item }
     ensures small { result ≤ most_weight }
@@ -104,6 +108,7 @@ fn item_measure(world: &World, item: u32, of: Measure) -> u32
     }
 }
 
+/// The weight of a unit's goods, or what they carry, as `of` says.
 fn goods_measure(world: &World, holding: &Holding, of: Measure) -> u64
     ensures value { result ≡ goods_measure of world.now holding.now }
     ensures small { result ≤ most_u32 * most_weight * most_items }

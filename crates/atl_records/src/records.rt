@@ -4,8 +4,7 @@ use atl_world::{Numbered, Text, let_go};
 use std::error::Error;
 use std::fmt;
 
-/// A player's faction. Names and pass texts obey the rules of docs/RULES.md, "Names and pass
-/// texts".
+/// A player's faction. Its names and pass text obey docs/RULES.md, "Names and pass texts".
 pub struct Faction {
     /// The faction's number, from 1 to atl_lines' LAST_FACTION, in the order of joining.
     pub number: u32,
@@ -81,8 +80,7 @@ pub struct Structure {
     pub name: Text,
     /// The number of the region where the structure is.
     pub region: u32,
-    /// How much of the structure is built, from 1 to the size of its kind; at that size the
-    /// structure is complete.
+    /// How much is built, from 1 to the size of the kind; at that size the structure is complete.
     pub done: u32,
     /// The number of the unit inside that owns the structure, or 0 where no unit is inside.
     pub owner: u32,

@@ -40,7 +40,6 @@ use mathlib.Core.Bool.{and-true, and-false}
 abbrev pub is_listed : ℕ → List ℕ → Bool
 is_listed q ns = list_any (λ n. eq_by_cmp nat_cmp q n) ns
 
--- two truth values are equal if each is true where the other is
 same_truth : (a b : Bool) → (a ≡ true → b ≡ true) → (b ≡ true → a ≡ true) → a ≡ b
 same_truth true b f g = sym (f refl)
 same_truth false true f g = g refl
@@ -52,12 +51,10 @@ listed_cons : (q n : ℕ) (ns : List ℕ) (b : Bool) → eq_by_cmp nat_cmp q n �
 listed_cons q n ns true is rest h = inl (same_key q n is)
 listed_cons q n ns false is rest h = inr (rest h)
 
--- a number that passes the test `is_listed` is on the list
 listed_if : (q : ℕ) (ns : List ℕ) → is_listed q ns ≡ true → IsListed q ns
 listed_if q [] h = absurd (false≢true h)
 listed_if q (n ∷ ns) h = listed_cons q n ns (eq_by_cmp nat_cmp q n) refl (listed_if q ns) h
 
--- a number on a list passes the test `is_listed`
 if_listed : (q : ℕ) (ns : List ℕ) → IsListed q ns → is_listed q ns ≡ true
 if_listed q [] h = absurd h
 if_listed q (n ∷ ns) (inl same) =
@@ -80,7 +77,6 @@ filtered p q n ns false false is t rest = rest
 listed-filter : (p : ℕ → Bool) (q : ℕ) (ns : List ℕ) → is_listed q (filter p ns) ≡ (p q && is_listed q ns)
 listed-filter p q [] = none (p q)
   where
-    -- for `listed-filter`: no number is on the empty list
     none : (a : Bool) → false ≡ (a && false)
     none true = refl
     none false = refl
@@ -88,13 +84,11 @@ listed-filter p q (n ∷ ns) = filtered p q n ns (eq_by_cmp nat_cmp q n) (p n) r
 
 -- `p` is a test of the values of map `m`, and `q` is the number that is looked up
 module _ {V : Type 0} (p : V → Bool) (m : FinMap nat_cmp V) (q : ℕ) where
-  -- for `listed-where`: the value looked up passes, where the number is on the list of those that pass
   passes : (o : Option V) → get m q ≡ o → is_listed q (numbers_where p m) ≡ true → option_map_or p o false ≡ true
   passes o is h =
       let (v, at, t) = listed_passing p m q (listed_if q (numbers_where p m) h) in
       ap (λ o. option_map_or p o false) (sym is ∙ at) ∙ t
 
-  -- for `listed-where`: the number is on the list, where its value passes
   passed : (o : Option V) → get m q ≡ o → option_map_or p o false ≡ true → is_listed q (numbers_where p m) ≡ true
   passed None is h = absurd (false≢true h)
   passed (Some v) is h = if_listed q (numbers_where p m) (passing_listed p m q v is h)
@@ -107,7 +101,6 @@ module _ {V : Type 0} (p : V → Bool) (m : FinMap nat_cmp V) (q : ℕ) where
 
 -- ---- the numbers gathered
 
--- to look for one number among two gives the same, one after the other or at once: for `get-with_numbers`
 one_or_other : (a b : Bool) (o : Option (Prim.Unit {0}))
     → cond a (Some tt) (cond b (Some tt) o) ≡ cond (b || a) (Some tt) o
 one_or_other true true o = refl
@@ -153,7 +146,6 @@ get-with_levels q observation (e ∷ es) seen =
 -- `q` is the number of a unit, `hides` its hiding level, and `observation` a level of observation; `here` says whether
 -- the unit is in the watched region
 module _ (q observation hides : ℕ) (here : Bool) where
-  -- for `within_one`: the first list, or the later ones
   first_or_later : (level : ℕ) (ns : List ℕ) (b found : Bool) → eq_by_cmp nat_cmp hides level ≡ b
       → is_listed q ns ≡ ((hides == level) && here)
       → ((nat_le level observation && is_listed q ns) || (nat_le hides observation && (here && found))) ≡ (nat_le hides observation && (here && (b || found)))
@@ -163,7 +155,6 @@ module _ (q observation hides : ℕ) (here : Bool) where
       ∙ ap (λ b. (nat_le hides observation && b) || (nat_le hides observation && (here && found))) (listed ∙ ap (λ b. b && here) same)
       ∙ both (nat_le hides observation) here found
     where
-      -- for `first_or_later`: a later list of the same level adds nothing
       both : (a b c : Bool) → ((a && b) || (a && (b && c))) ≡ (a && (b && true))
       both true true c = refl
       both true false c = refl
@@ -179,7 +170,6 @@ module _ (q observation hides : ℕ) (here : Bool) where
       → is_within q observation es ≡ (nat_le hides observation && (here && is_some (find nat_cmp hides es)))
   within_one [] h = nothing (nat_le hides observation) here
     where
-      -- for `within_one`: without lists the number is on none
       nothing : (a b : Bool) → false ≡ (a && (b && false))
       nothing true true = refl
       nothing true false = refl
@@ -189,7 +179,6 @@ module _ (q observation hides : ℕ) (here : Bool) where
       ∙ first_or_later e.0 e.1 (eq_by_cmp nat_cmp hides e.0) (is_some (find nat_cmp hides es)) refl h.0
       ∙ ap (λ b. nat_le hides observation && (here && b)) (chosen (eq_by_cmp nat_cmp hides e.0) e.1 (find nat_cmp hides es))
     where
-      -- for `within_one`: there is a value, if there is the first or a later one
       chosen : (b : Bool) (ns : List ℕ) (o : Option (List ℕ)) → (b || is_some o) ≡ is_some (cond b (Some ns) o)
       chosen true ns o = refl
       chosen false ns o = refl

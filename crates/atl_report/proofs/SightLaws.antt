@@ -120,8 +120,6 @@ module _ {V : Type 0} where
       ap (λ b. b && is_sorted nat_cmp (map number_alone es)) (below-alone e.0 es)
       ∙ ap (λ b. below_all nat_cmp e.0 es && b) (sorted-alone es)
 
-  -- to replace a value by `tt`, after a choice between it and None or before it, gives the same: for
-  -- `entries-with_all_watched`
   alone_chosen : (b : Bool) (o : Option V)
       → option_map forget_value (cond b o None) ≡ cond b (option_map forget_value o) None
   alone_chosen true o = refl
@@ -144,8 +142,6 @@ module _ (c : CampaignValue) (f q : ℕ) where
         | Greater ↦ λ _. refl
       ] refl
     where
-      -- if o is None, the choice by b between o and None is o: for `one_region`, of a region that the campaign doesn't
-      -- have
       absent : (b : Bool) (o : Option (Prim.Unit {0})) → o ≡ None → cond b o None ≡ o
       absent true o h = refl
       absent false o h = sym h
@@ -168,8 +164,6 @@ module _ (c : CampaignValue) (f q : ℕ) where
         | false ↦ was
       ]
 
-  -- `a or (w or b)` is `(w or a) or b`: for `all_watched`, where w says whether the next unit is in region `q`, a
-  -- whether a later one is, and b whether an earlier one was
   or_order : (a w b : Bool) → (a || (w || b)) ≡ ((w || a) || b)
   or_order true true b = refl
   or_order true false b = refl

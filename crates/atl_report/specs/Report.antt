@@ -189,7 +189,7 @@ region_parts w = each_text (region_part w)
 
 -- ---- the whole
 
--- the report to a view's faction: its first line, the given faulty lines, its own of the events, and the view's regions
+-- the report to a view's faction: first line, `Orders:` with the faulty lines and its own events, the view's regions
 unfoldable pub report_of : WorldValue → View → List FaultyLine → List Event → List ℕ
 report_of w v faults events = header_line v ▸ orders_part v.faction faults events ▸ region_parts w v.regions
 

@@ -1,5 +1,5 @@
 //! Writes the text of the books, at the end of `out`; after an AllocError some of it may be there.
-//! See docs/FORMATS.md, "Books".
+//! See docs/FORMATS.md, "Books". The campaign has at most 1,000,000 units and regions together.
 ghost use Rattle.std.specs.Prelude.{◌≡◌, ◌++◌, IfOk, OnOk, length, string_bytes};
 ghost use Rattle.std.specs.List.{slice_get};
 ghost use Rattle.atl_campaign.specs.Founding.{thing_count};
@@ -33,7 +33,7 @@ fn write_thing(out: &mut String, world: &World, thing: Thing) -> Result<(), Allo
     }
 }
 
-/// Nothing for an item that the world doesn't have.
+/// Writes `item` and the item's name in quotes; nothing for one that the world doesn't have.
 fn write_item(out: &mut String, world: &World, item: u16) -> Result<(), AllocError>
     ensures { OnOk result (string_bytes out.new
         ≡ string_bytes out.old ++ item_name (slice_get world.now.items item)) }
@@ -55,7 +55,7 @@ fn write_amount(out: &mut String, entry: BooksEntry, amount: i64) -> Result<(), 
     write!(out, " {name} {amount}\n")
 }
 
-/// Nothing for an amount of 0.
+/// Writes the line of a thing under an entry; nothing for an amount of 0.
 #[tactic(auto, unfolding(crate::specs::Books::amount_line))]
 fn write_entry(
     out: &mut String,

@@ -1,5 +1,5 @@
 //! Lists the units of a region: by hiding level (the observation level from which other factions
-//! see a unit), a faction's own, and those that a faction sees.
+//! see a unit), a faction's own, and those that a faction sees. AllocError without memory.
 ghost use Rattle.std.specs.Prelude.{◌≡◌, ℕ, IfOk, OnOk, filter, map};
 ghost use Rattle.std.specs.FinMap.{get, entries};
 ghost use Rattle.atl_world.specs.Every.{Every};
@@ -49,6 +49,7 @@ pub(crate) fn levels_of(
     Ok(levels)
 }
 
+/// The numbers of a faction's units, with men or not, by region.
 pub(crate) fn own_by_region(
     alloc: Global,
     campaign: &Campaign,
@@ -66,7 +67,7 @@ pub(crate) fn own_by_region(
     Ok(own)
 }
 
-/// After an AllocError some of the numbers are added.
+/// Adds numbers to a set; after an AllocError some of them are added.
 fn add_numbers(seen: &mut Numbered<()>, numbers: &[u32]) -> Result<(), AllocError>
     ensures { OnOk result (seen.new ≡ with_numbers seen.old numbers.now) }
 {

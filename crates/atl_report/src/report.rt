@@ -87,7 +87,7 @@ fn write_guard(out: &mut String, guard: bool) -> Result<(), AllocError>
     Ok(())
 }
 
-/// Nothing for 0, which stands for no structure.
+/// Writes in which structure a unit is; nothing for 0, which stands for no structure.
 fn write_inside(out: &mut String, structure: u32) -> Result<(), AllocError>
     ensures { OnOk result (string_bytes out.new ≡ string_bytes out.old ++ inside_text structure) }
 {
@@ -196,7 +196,7 @@ impl InReport for StructureView {
     }
 }
 
-/// Nothing where the world doesn't have the region.
+/// Writes the line of a region; nothing where the world doesn't have the region.
 #[tactic(auto, unfolding(crate::specs::Report::region_line))]
 fn write_region(out: &mut String, world: &World, region: &RegionView) -> Result<(), AllocError>
     ensures { OnOk result (string_bytes out.new
@@ -219,7 +219,7 @@ fn write_region(out: &mut String, world: &World, region: &RegionView) -> Result<
     )
 }
 
-/// Nothing without an exit; a comma goes before each but the first.
+/// Writes an exit, after a comma unless it is the first; nothing without an exit.
 fn write_exit(
     out: &mut String,
     is_first: bool,
@@ -308,7 +308,7 @@ fn write_market_text(
     )
 }
 
-/// Nothing where the world doesn't have the market or its item.
+/// Writes the line of a market; nothing where the world doesn't have the market or its item.
 #[tactic(auto, unfolding(crate::specs::Report::market_line))]
 fn write_market(
     out: &mut String,

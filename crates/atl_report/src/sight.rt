@@ -1,6 +1,6 @@
 //! Collects what a faction sees into a view. See docs/RULES.md, "Sight". `lists` has right lists of
 //! each region's structures and units, as far as it has any; `own` are the numbers of the watching
-//! faction's units in the watched region.
+//! faction's units in the watched region. AllocError without memory.
 ghost use Rattle.std.specs.Prelude.{◌≡◌, IfOk, OnOk, Some, filter, map};
 ghost use Rattle.std.specs.FinMap.{get, entries};
 ghost use Rattle.atl_sight.specs.Watching.{sees_region, own_units_in};
@@ -38,7 +38,7 @@ fn unit_views(
     Ok(units)
 }
 
-/// 0 where there is no owner, or it isn't seen in the watched region.
+/// A structure's owner as it is shown: 0 where none is, or it isn't seen in the watched region.
 fn shown_owner(world: &World, campaign: &Campaign, watch: Watch, structure: &Structure) -> u32
     ensures { result ≡ shown_owner world.now campaign.now.value watch structure.now }
 {
@@ -190,6 +190,7 @@ fn add_region_seen(
     Ok(())
 }
 
+/// The numbers of the regions that a faction sees, sorted.
 fn regions_seen(
     alloc: Global,
     campaign: &Campaign,

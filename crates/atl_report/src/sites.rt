@@ -1,5 +1,5 @@
 //! Lists the numbers of the structures and of the units of each region, for the views of what
-//! factions see.
+//! factions see. AllocError without memory.
 ghost use Rattle.std.specs.Prelude.{◌≡◌, IfOk, OnOk};
 ghost use Rattle.atl_world.specs.Worlds.{WorldValue};
 ghost use Rattle.atl_campaign.specs.Campaign.{CampaignValue};
@@ -50,7 +50,7 @@ pub(crate) fn add_listed(
     }
 }
 
-/// The lists stay right until a structure is begun or moved.
+/// The lists of all regions' structures; they stay right until a structure is begun or moved.
 fn sites_of(alloc: Global, campaign: &Campaign) -> Result<Sites, AllocError>
     ensures { IfOk result (AreSites campaign.now.value.structures) }
 {

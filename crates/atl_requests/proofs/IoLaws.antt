@@ -54,7 +54,7 @@ appends_next before between after bytes sent count h k =
 -- ---- reading
 
 -- If the bytes `seen` were read and have the verdict More, and the next read ends in a fault, reading the request ends
--- in it (`Receives`): with Cut and ReadFault `new` was read and has the verdict More, and with Cut the input has ended.
+-- in it (`Receives`). With Cut and ReadFault `new` was read and has the verdict More; with Cut the input has ended.
 pub fault_ends_reading : (before between after : Option (List ℕ)) (seen new : List ℕ) (fault : HttpFault)
     → Consumes before between seen → Judges seen More → ReadsMore between after seen new (Err fault)
     → Receives before after new (Err fault)
@@ -72,8 +72,8 @@ pub collected_bytes_are_read : (before between after : Option (List ℕ)) (seen 
 collected_bytes_are_read before between after seen new count h (piece, is, few, more, same) =
     subst (λ l. Consumes before after l) (sym same) (consumes_more before between after seen piece h more)
 
--- If the bytes before the last read had the verdict More, no read was done after the request was whole or refused
--- (`ReadsNoFurther`).
+-- If the bytes before the last read, which ended with Ok, had the verdict More, no read was done after the request was
+-- whole or refused (`ReadsNoFurther`).
 pub read_so_far : (between after : Option (List ℕ)) (seen new : List ℕ) (count : ℕ) → Judges seen More
     → ReadsMore between after seen new (Ok count) → ReadsNoFurther new
 read_so_far between after seen new count h (piece, is, few, more, same) =

@@ -20,9 +20,9 @@ fault_number Memory = None
 
 -- ---- reading
 
--- What one read adds to the collected bytes, `old` before it and `new` after it: with Ok `count` bytes of the reader,
--- from 0 to 8,192; none with ReadFault, or with Cut at the end of the input. WriteFault never comes, and Memory leaves
--- open what was read.
+-- What one read adds to the collected bytes, `old` before it and `new` after it. With Ok it is `count` bytes of the
+-- reader, from 0 to 8,192; nothing with ReadFault, or with Cut at the end of the input. WriteFault never comes, and
+-- Memory leaves open what was read.
 abbrev pub ReadsMore : (before after : Option (List ℕ)) → (old new : List ℕ) → Result ℕ HttpFault → Type 0
 ReadsMore before after old new (Ok count) =
     (piece : List ℕ) × (length piece ≡ count) × (count ≤ most_at_once) × Consumes before after piece × (new ≡ old ++ piece)

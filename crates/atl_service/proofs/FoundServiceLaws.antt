@@ -72,8 +72,8 @@ module _ {S : Type 0} (g : Ghosts S) where
   }
 
   -- If the founded campaign was prepared (`Prepares`), its tables were created (`Creates`), and `conn` is later than
-  -- `old` (`IsLater`), the service with all three is founded. There was no table `campaign`, and on a clean disk the
-  -- tables hold the text and the campaign (`Founds`).
+  -- `old` (`IsLater`), the service of `conn`, `w` and `c` is founded (`Founds`). There was no table `campaign`, and on
+  -- a clean disk the tables hold the text and the campaign.
   pub founds_on : (old conn : Held S) (w : WorldValue) (c : CampaignValue) (text pass : List ℕ) → Prepares text pass w c
       → Creates g text c old conn → IsLater (state g old) (state g conn)
       → Founds g old text pass (record { conn = conn; world = w; campaign = Some c })

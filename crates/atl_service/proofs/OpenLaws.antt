@@ -47,8 +47,8 @@ module _ {S : Type 0} (g : Ghosts S) where
         record { fault = fault; why_is = refl; cause = cause; alone = alone; later = survives_is_later _ _ _ alone.survives }
 
     module _ (w : WorldValue) (c : MarkedCampaign) (loads : Loads g old new w c) where
-      -- the service with the loaded world and campaign (`Loads`) is open with this campaign, which is good; on a clean
-      -- disk the tables hold it and a text of the world, and nothing is changed (`Opens`)
+      -- The service with the loaded world and campaign (`Loads`) is open with this campaign, which is good. On a clean
+      -- disk the tables hold it and a text of the world, and nothing is changed (`Opens`).
       pub opens : Opens g old (record { conn = new; world = w; campaign = Some c.value })
       opens =
           record { campaign = c; is_open = refl; loads = loads; alone = alone; later = survives_is_later _ _ _ alone.survives }

@@ -26,17 +26,13 @@ use Rattle.atl_commands.specs.Service.{ServiceValue, text_in}
 -- A campaign was founded: the service is open with the text's world and the founded campaign, and, if the disk is
 -- clean, its tables hold the text and this campaign. There was no table `campaign`.
 pub record Founds {S : Type 0} (g : Ghosts S) (old : Held S) (text pass : List ℕ) (made : ServiceValue S) : Type 0 where
-  -- before the founding there was no table `campaign`
   pub fresh : has_campaign old.schema ≡ false
   -- the text reads as the service's world
   pub world : world_of text ≡ Ok made.world
   -- the pass text keeps the rule of pass texts (`pass_ok`)
   pub pass_is_good : pass_ok pass ≡ true
-  -- the service is open with the campaign founded in its world
   pub campaign : made.campaign ≡ Some (founded_of made.world pass)
-  -- if the disk is clean, the tables hold the text and the founded campaign
   pub tables : HoldsCampaign g made.conn text (founded_of made.world pass)
-  -- if the disk is clean, the world text that the tables hold is the given text
   pub text_is : HasCleanDisk (state g made.conn) → text_in g made.conn ≡ text
   -- a disk that isn't clean stays so, no failure is forgotten, and reads compared with digests stay so (`IsLater`)
   pub later : IsLater (state g old) (state g made.conn)
@@ -102,9 +98,7 @@ LeavesByCause g old text pass new Memory = FailsToFound g old text pass new × L
 -- cause allows.
 pub record RefusesFounding {S : Type 0} (g : Ghosts S) (old : Held S) (text pass : List ℕ)
     (why : Cause) (new : Held S) : Type 0 where
-  -- founding may fail with this cause (`MayBeCause`)
   pub cause : MayBeCause text pass (has_campaign old.schema) why
-  -- founding leaves what its cause allows (`LeavesByCause`)
   pub leaves : LeavesByCause g old text pass new why
   -- a disk that isn't clean stays so, no failure is forgotten, and reads compared with digests stay so (`IsLater`)
   pub later : IsLater (state g old) (state g new)

@@ -20,9 +20,7 @@ use Rattle.atl_commands.specs.Service.{ServiceValue, text_in}
 -- A campaign was opened: the service has the campaign that was loaded, and it is good. If the disk is clean, the tables
 -- hold this campaign and a text of the service's world, and nothing is changed.
 pub record Opens {S : Type 0} (g : Ghosts S) (old : Held S) (made : ServiceValue S) : Type 0 where
-  -- the campaign that was loaded, with its marks
   pub campaign : MarkedCampaign
-  -- the service is open with the campaign that was loaded
   pub is_open : made.campaign ≡ Some campaign.value
   -- the loaded campaign is good, and, if the disk is clean, the tables hold it and a text of the world (`Loads`)
   pub loads : Loads g old made.conn made.world campaign
@@ -53,11 +51,8 @@ cause_of_loading_fault load.Memory = Memory
 -- Opening was refused for a fault of loading. If the disk is clean, loading may give this fault, and the tables are
 -- unchanged while the connection is open.
 pub record RefusesOpening {S : Type 0} (g : Ghosts S) (old : Held S) (why : Cause) (new : Held S) : Type 0 where
-  -- the fault with which loading the campaign failed
   pub fault : StoreFault
-  -- the cause of the refusal is that of the fault of loading, of the same name
   pub why_is : why ≡ cause_of_loading_fault fault
-  -- if the disk is clean, loading may return this fault (`RefusesToLoad`)
   pub cause : HasCleanDisk (state g new) → RefusesToLoad g old fault
   -- If the disk is clean, nothing is changed while the connection is open, and a crash leaves what it could have left
   -- before (`Survives`). The connection is in a transaction exactly if it was in one (`LeavesAlone`).

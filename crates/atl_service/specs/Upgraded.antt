@@ -15,18 +15,15 @@ use Rattle.atl_service.specs.declared.cause.Cause.{Cause}
 use Rattle.atl_service.specs.declared.cause.Cause.TheVariants.{World, NotACampaign, NotOld, Damaged, Differs, Store, Memory}
 use Rattle.atl_commands.specs.Service.{ServiceValue, text_in}
 
--- A file was upgraded: the service is open with the new text's world and a campaign with empty stocks. On a clean disk
--- it is the campaign that the tables held, and they now hold it with the new text. A disk that isn't clean stays so, no
--- failure of it is forgotten, and reads that are compared with digests stay so (`IsLater`).
+-- A file was upgraded: the service is open with the new text's world and a good campaign with empty stocks. On a clean
+-- disk it is the campaign that the tables held in the first format, and they now hold it with the new text. A disk that
+-- isn't clean stays so, no failure of it is forgotten, and reads that are compared with digests stay so (`IsLater`).
 pub record UpgradesTo {S : Type 0} (g : Ghosts S) (old : Held S) (text : List ℕ) (made : ServiceValue S) : Type 0 where
-  -- the upgraded campaign, with its marks
   pub campaign : MarkedCampaign
-  -- the service is open with the upgraded campaign
   pub is_open : made.campaign ≡ Some campaign.value
   -- the new text reads as the service's world, and, if the disk is clean, the tables held the upgraded campaign and
   -- still do (`Upgrades`)
   pub upgrades : Upgrades g text old made.conn made.world campaign
-  -- if the disk is clean, the world text that the tables hold is the new text
   pub text_is : HasCleanDisk (state g made.conn) → text_in g made.conn ≡ text
   pub later : IsLater (state g old) (state g made.conn)
 
@@ -43,9 +40,7 @@ cause_of_upgrade_fault upgrade.Memory = Memory
 -- An upgrade was refused with the store's fault. If the disk is clean, the tables are as before while the connection is
 -- open; a crash leaves what it could have left before, or the upgraded campaign.
 pub record RefusesUpgrade {S : Type 0} (g : Ghosts S) (old : Held S) (text : List ℕ) (why : Cause) (new : Held S) : Type 0 where
-  -- the fault with which the store refused to upgrade the file
   pub fault : UpgradeFault
-  -- the cause of the refusal is that of the store's fault, of the same name
   pub why_is : why ≡ cause_of_upgrade_fault fault
   -- The store may refuse the upgrade with this fault. If the disk is clean, the tables are as before while the
   -- connection is open, and a crash leaves what it could have left before, or the upgraded campaign

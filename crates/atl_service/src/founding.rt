@@ -11,8 +11,8 @@ use atl_tables::read_world;
 use atl_world::{World, pass_ok};
 use std::alloc::Global;
 
-/// The world of the text, and the campaign founded in it. The cause of an Err is that of the first
-/// check that fails (world text, then pass text), or Memory; it doesn't depend on the tables.
+/// The text's world, and the good campaign founded in it, with few enough things to store. An Err
+/// has the cause of the first failed check (world text, pass text), or Memory, whatever the tables.
 pub(crate) fn world_and_campaign(
     alloc: Global,
     world_text: &str,

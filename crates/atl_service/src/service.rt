@@ -13,14 +13,14 @@ use sqlite::{Alter, Connection};
 use std::alloc::Global;
 
 /// Founds a campaign by a world text and the moderator's pass text, in a database without tables.
-/// The cause of a refusal is the first check that fails: World, BadPassText, NotEmpty, Store; or
-/// Memory at any of them. NotEmpty: there is a table `campaign`. Store: there is another table, an
-/// index or a view, the connection is in a transaction, or a call of the write gave another error
-/// than out of memory. After World, BadPassText and NotEmpty nothing is changed, nor after Memory
-/// if the text is no world or the pass text breaks its rule. After Store and Memory, if the disk is
-/// clean, the tables are as they were while the connection is open. A crash then leaves what it
-/// left before or the founded campaign. See docs/RULES.md, "Founding", and docs/FORMATS.md, "Faults
-/// of a world file" and "Tables".
+/// The campaign's books balance. The cause of a refusal is the first check that fails: World,
+/// BadPassText, NotEmpty, Store; or Memory at any of them. NotEmpty: there is a table `campaign`.
+/// Store: there is another table, an index or a view, the connection is in a transaction, or a call
+/// of the write gave another error than out of memory. After World, BadPassText and NotEmpty
+/// nothing is changed, nor after Memory if the text is no world or the pass text breaks its rule.
+/// After Store and Memory, if the disk is clean, the tables are as they were while the connection
+/// is open. A crash then leaves what it left before or the founded campaign. See docs/RULES.md,
+/// "Founding", and docs/FORMATS.md, "Faults of a world file" and "Tables".
 pub fn found<S: Alter>(
     alloc: Global,
     mut conn: Connection<S>,
@@ -45,13 +45,14 @@ pub fn found<S: Alter>(
     }
 }
 
-/// Opens the campaign that the tables hold, with its world. On a clean disk both are as they were
-/// stored, and the tables are unchanged, also, while the connection is open, after a refusal.
-/// NotACampaign: there is no table `campaign`, or it lacks a column. OldFormat: the table
-/// `campaign` has one row, whose format is the first, whatever else it says; `upgrade` is for such
-/// tables. Damaged: this is the first rule that the rows of the tables break. Store: the connection
-/// is in a transaction, the tables are not made as those of a campaign, or the database failed for
-/// another cause than memory. Memory: it ran out. See docs/FORMATS.md, "Rules of the tables".
+/// Opens the campaign that the tables hold, a good one whose books balance, with its world. On a
+/// clean disk campaign and world are as they were stored, and the tables are unchanged, also, while
+/// the connection is open, after a refusal. NotACampaign: there is no table `campaign`, or it lacks
+/// a column. OldFormat: the table `campaign` has one row, whose format is the first, whatever else
+/// it says; `upgrade` is for such tables. Damaged: this is the first rule that the rows of the
+/// tables break. Store: the connection is in a transaction, the tables are not made as those of a
+/// campaign, or the database failed for another cause than memory. Memory: it ran out. See
+/// docs/FORMATS.md, "Rules of the tables".
 pub fn open<S: Alter>(alloc: Global, mut conn: Connection<S>) -> Result<Service<S>, Refused<S>>
     ensures ok { IfOk result (Opens S.Store conn) }
     ensures back { IfOk result (ComesBack S.Store conn) }
@@ -75,15 +76,15 @@ pub fn open<S: Alter>(alloc: Global, mut conn: Connection<S>) -> Result<Service<
 
 /// Upgrades a campaign's tables from the first format to the second, with a new world, and opens
 /// the campaign. The new world may differ from the old one only in markets. The campaign is as it
-/// was, and nothing is in stock. The cause of a refusal is the first check that fails. A refusal
-/// returns the connection; if the disk is clean, the tables are as they were while the connection
-/// is open, and a crash leaves what it left before or the upgraded campaign. NotACampaign: there is
-/// no table `campaign`, or it lacks a column. NotOld: the table `campaign` has one row, whose
-/// format is the second, whatever else it says. Damaged: this is the first rule of the first format
-/// that the rows break. World: the new world text has this fault. Differs: the worlds differ in
-/// more than markets. Store: the connection is in a transaction, the tables are not exactly those
-/// of the first format, or the database failed for another cause than memory. Memory: it ran out.
-/// See docs/FORMATS.md, "Upgrading a file".
+/// was; it is good, nothing is in stock, and its books balance. The cause of a refusal is the first
+/// check that fails. A refusal returns the connection; if the disk is clean, the tables are as they
+/// were while the connection is open, and a crash leaves what it left before or the upgraded
+/// campaign. NotACampaign: there is no table `campaign`, or it lacks a column. NotOld: the table
+/// `campaign` has one row, whose format is the second, whatever else it says. Damaged: this is the
+/// first rule of the first format that the rows break. World: the new world text has this fault.
+/// Differs: the worlds differ in more than markets. Store: the connection is in a transaction, the
+/// tables are not exactly those of the first format, or the database failed for another cause than
+/// memory. Memory: it ran out. See docs/FORMATS.md, "Upgrading a file".
 pub fn upgrade<S: Alter>(
     alloc: Global,
     mut conn: Connection<S>,

@@ -9,8 +9,8 @@ use Rattle.atl_world.proofs.GeneralLaws.{is_equal, key_equality_is_symmetric}
 
 -- `m` has a group by number, and a group has a value by number. Value `a` is set under number `f` of group `r`.
 module _ {V : Type 0} (m : FinMap nat_cmp (FinMap nat_cmp V)) (r f : ℕ) (a : V) where
-  -- Once `a` is set under number `f` of group `r`, a look-up there finds `a`, and any other look-up what it found
-  -- before.
+  -- Once `a` is set under number `f` of group `r`, a look-up of number `g` in group `s` finds `a` if `g` is `f` and
+  -- `s` is `r`, and else what it found before.
   pub get-grouped : (s g : ℕ)
       → get (group_of (insert m r (insert (group_of m r) f a)) s) g
       ≡ cond ((r == s) && (f == g)) (Some a) (get (group_of m s) g)

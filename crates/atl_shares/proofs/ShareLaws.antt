@@ -56,8 +56,7 @@ shares_after-append pot total before (x ∷ xs) ys =
     (shares_after-append pot total (before + x) xs ys
     ∙ ap (λ n. shares_after pot total (before + x) xs ++ shares_after pot total n ys) (let e : sum (x ∷ xs) ≡ x + sum xs = sum_by-cons (λ x. x) x xs in omega arith))
 
--- what a want gets, as a difference of two `share_upto`, differs from `pot * want / total` by less than one, if `total`
--- isn't 0
+-- unless `total` is 0, what a want gets, a difference of two `share_upto`, is off `pot * want / total` by less than one
 pub share_near : (pot total before want : ℕ) → 0 < total →
     ((share_upto pot total (before + want) - share_upto pot total before) * total < pot * want + total)
     × (pot * want < (share_upto pot total (before + want) - share_upto pot total before) * total + total)
@@ -110,8 +109,7 @@ all_is_given pot wants =
       | inr h ↦ ap sum (shares-enough pot wants h) ∙ omega arith
     ]
 
--- each share differs by less than one from the pot times its want divided by the sum of all wants, if the pot isn't
--- enough
+-- each share differs from the pot times its want divided by all wants by less than one, if the pot isn't enough
 pub share_is_near : (pot : ℕ) (wants : List ℕ) (i : ℕ) → pot < sum wants
     → IsNearPart pot (sum wants) (get_or wants i 0) (get_or (shares pot wants) i 0)
 share_is_near pot wants i h =

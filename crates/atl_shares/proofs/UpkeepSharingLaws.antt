@@ -135,8 +135,7 @@ none_short m s g = rw (no_accounts m s g) (omega arith)
 -- `m` is the maintenance of each man. The units `before` are counted in `accounts`, and unit `p` is the next one. `a`
 -- is the account of the faction of `p` in the region of `p`, with `p` counted; it is set in the map if it is short.
 module _ (m : ℕ) (before : List UpkeepInput) (p : UpkeepInput) (accounts : FactionAccounts) (a : Account) where
-  -- if each account has what the units `before` are short of, then with unit `p` counted each has what they and `p` are
-  -- short of
+  -- if each account has what the units `before` are short of, it has what they and `p` are short of once `p` is counted
   pub short_more : ((s g : ℕ) → account_at accounts s g ≡ opened m before [] s g)
       → a ≡ record (account_at accounts p.region p.faction) { short = (account_at accounts p.region p.faction).short + short_of m p }
       → (s g : ℕ) → account_at (with_if_short accounts p.region p.faction a) s g ≡ opened m (before ++ p ∷ []) [] s g
@@ -325,8 +324,7 @@ module _ (m : ℕ) (all before : List UpkeepInput) (p : UpkeepInput) (accounts :
       same_upkeep_result : (a b c d : ℕ) → a ≡ c → b ≡ d → upkeep_result a b ≡ upkeep_result c d
       same_upkeep_result a b c d x y = rw (x, y) refl
 
-  -- Of the account of the unit's faction in its region, at most the amount to give was given so far, and at most that
-  -- amount covered.
+  -- by the account of the unit's faction in its region, at most the amount to give was given so far, and was covered
   pub account_open : IsOpen (account_at accounts p.region p.faction)
   account_open =
       rw (each p.region p.faction) (record { given = omega (arith, to_give_is); covered = omega (arith, to_give_is) })

@@ -31,13 +31,11 @@ with_account m region faction a = insert m region (insert (group_of m region) fa
 abbrev pub with_if_short : FactionAccounts → (region faction : ℕ) → Account → FactionAccounts
 with_if_short m region faction a = if a.short == 0 then m else with_account m region faction a
 
--- The money that the listed units of a faction in a region have left after their own upkeep, at this maintenance for
--- each man.
+-- what the listed units of a faction in a region have left after their own upkeep, at this maintenance for each man
 abbrev pub left_among : ℕ → (region faction : ℕ) → List UpkeepInput → ℕ
 left_among maintenance region faction inputs = sum_by (left_of maintenance) (peers_of region faction inputs)
 
--- The money that the listed units of a faction in a region are short of for their own upkeep, at this maintenance for
--- each man.
+-- what the listed units of a faction in a region are short of for their own upkeep, at this maintenance for each man
 abbrev pub short_among : ℕ → (region faction : ℕ) → List UpkeepInput → ℕ
 short_among maintenance region faction inputs = sum_by (short_of maintenance) (peers_of region faction inputs)
 

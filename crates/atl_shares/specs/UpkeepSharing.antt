@@ -1,5 +1,5 @@
 -- How the units of one faction in one region share their upkeep: what each pays and how many starve.
--- See docs/RULES.md, "Upkeep".
+-- Upkeep is what a unit's men cost in a month, the maintenance for each. See docs/RULES.md, "Upkeep".
 use Rattle.std.specs.Prelude.{ℕ, nat_lt, ◌+◌, ◌-◌, ◌*◌, ◌/◌, ◌==◌, ◌&&◌, Bool, List, filter, map, min, ◌≤◌, ◌<◌}
 use Rattle.std.specs.List.{AllPairs, sum_by}
 use Rattle.atl_records.specs.Limits.{holding_limit, men_limit}
@@ -40,8 +40,7 @@ is_input_of region faction input = (input.region == region) && (input.faction ==
 abbrev pub peers_of : (region faction : ℕ) → List UpkeepInput → List UpkeepInput
 peers_of region faction inputs = filter (is_input_of region faction) inputs
 
--- The money that units with some left give to those that are short, at this maintenance: the lesser of all left and all
--- short.
+-- what units with money left give to those that are short, at this maintenance: the lesser of all left and all short
 abbrev pub given_among : ℕ → (peers : List UpkeepInput) → ℕ
 given_among maintenance peers =
     min (sum_by (left_of maintenance) peers) (sum_by (short_of maintenance) peers)
@@ -67,8 +66,8 @@ given_to maintenance peers input =
 abbrev pub starved_of : (maintenance short : ℕ) → ℕ
 starved_of maintenance short = (short + (maintenance - 1)) / maintenance
 
--- what upkeep takes from a unit, at this maintenance for each man, where `peers` are the units of its faction in its
--- region: what it pays for its own men and gives, and the men for whom money is missing still
+-- What upkeep takes from a unit, at this maintenance for each man, where `peers` are the units of its faction in its
+-- region: what it pays for its own men and gives to others, and the men who starve, for whom money is missing still.
 abbrev pub upkeep_result_among : ℕ → (peers : List UpkeepInput) → UpkeepInput → UpkeepResult
 upkeep_result_among maintenance peers input = record {
   unit = input.unit;

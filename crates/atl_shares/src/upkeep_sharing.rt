@@ -29,7 +29,7 @@ pub struct UpkeepResult {
     pub starved: u32,
 }
 
-/// One of the two is 0.
+/// The money that a unit has left, and what it is short of; one of the two is 0.
 fn left_and_short(maintenance: u32, input: &UpkeepInput) -> (u64, u64)
     requires most { maintenance ≤ most_per_head }
     requires input { IsUpkeepInput input.now }
@@ -40,6 +40,7 @@ fn left_and_short(maintenance: u32, input: &UpkeepInput) -> (u64, u64)
     (money.saturating_sub(due), due.saturating_sub(money))
 }
 
+/// The accounts with what the units are short of, and nothing left, given or covered.
 fn short_accounts(
     alloc: Global,
     maintenance: u32,
@@ -61,6 +62,7 @@ fn short_accounts(
     Ok(accounts)
 }
 
+/// Adds what the units have left to the accounts of `short_accounts`, where units are short.
 fn add_left(
     alloc: Global,
     maintenance: u32,
@@ -85,7 +87,8 @@ fn add_left(
     Ok(())
 }
 
-/// There is no account where no unit is short, so what these units have left isn't added up.
+/// The accounts before the first unit's turn. There is none where no unit is short, so what these
+/// units have left isn't added up.
 fn open_accounts(
     alloc: Global,
     maintenance: u32,
@@ -102,6 +105,7 @@ fn open_accounts(
     Ok(accounts)
 }
 
+/// What upkeep takes from a unit in its turn. It changes `account`, of its faction in its region.
 fn payment_of(maintenance: u32, account: &mut Account, input: &UpkeepInput) -> UpkeepResult
     requires some { 1 ≤ maintenance }
     requires most { maintenance ≤ most_per_head }

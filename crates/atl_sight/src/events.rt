@@ -1,5 +1,5 @@
-//! Writes the lines of a report from `Orders:` on: faulty lines of the mailing, and events. See
-//! docs/FORMATS.md, "Reports".
+//! Writes the lines of a report from `Orders:` on, at the end of `out`: faulty lines of the
+//! mailing, and events. After an AllocError some may be there. See docs/FORMATS.md, "Reports".
 ghost use Rattle.std.specs.Prelude.{◌≡◌, ◌==◌, ◌++◌, ◌&&◌, not, length, OnOk, string_bytes};
 ghost use Rattle.std.specs.List.{list_any};
 ghost use Rattle.atl_sight.specs.Events.{faulty_line, faulty_lines, name_of_number, event_line, event_lines, own_events, results_text, orders_part};
@@ -28,7 +28,7 @@ fn write_faulty_lines(out: &mut String, faults: &[FaultyLine]) -> Result<(), All
     Ok(())
 }
 
-/// Empty for a number that is no fault's.
+/// The name of the event fault with this number; empty for a number that is no fault's.
 fn name_of_number(number: u8) -> &'static str
     ensures { result.now ≡ name_of_number number }
 {

@@ -1,4 +1,4 @@
-//! Shows a faction a unit that it sees. See docs/RULES.md, "Sight".
+//! Shows a faction a unit that it sees. AllocError without memory. See docs/RULES.md, "Sight".
 ghost use Rattle.std.specs.Prelude.{◌≡◌, IfOk};
 ghost use Rattle.std.specs.FinMap.{get};
 ghost use Rattle.atl_sight.specs.Units.{item_views, shown_name, side_of, skill_views, unit_view};

@@ -31,7 +31,7 @@ pub(crate) fn is_guard(unit: &Unit) -> bool
     unit.holding.guard() && unit.holding.men() > 0
 }
 
-/// 0 without a unit.
+/// The best observation level of the units with these numbers; 0 without a unit.
 fn best_observation(world: &World, campaign: &Campaign, numbers: &[u32]) -> u32
     ensures { result ≡ best_observation world.now campaign.now.value numbers.now }
 {

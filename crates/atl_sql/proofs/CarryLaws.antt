@@ -39,7 +39,7 @@ write_checks_no_reference tables indexes tree free olds news =
 
 -- ---- indexes that make nothing unique find nothing
 
--- if the indexes make nothing unique in table t, rows `new` and `r` share no unique value, whatever `target` asks for
+-- if the indexes make nothing unique in table t, rows `new` and `r` share no unique value, whatever key is the `target`
 pub none_share : (t : Table) (target : Option (List ℕ)) (new r : Row) (indexes : List Index)
     → ((i : Index) → Has indexes i → guards i t ≡ false) → list_any (shares target t new r) indexes ≡ false
 none_share t target new r [] plain = refl
@@ -72,7 +72,7 @@ module _ (t : Table) (old new : Database) (has : HasTables old) (ours : Has all_
     sound = subst (λ s. IsSoundDatabase s new.trees) (sym is) sound;
   }
 
-  -- if the schema stays, and each of its tables but t, no table and no index is gone (`Carries`)
+  -- if the schema stays, and what its tables but t hold, no table or index is gone, and other tables stay (`Carries`)
   pub carried : new.schema ≡ schema → OthersStay → Carries old new
   carried is others =
       let same : new.schema ≡ old.schema = is ∙ sym has.begins.made_of in
@@ -82,6 +82,7 @@ module _ (t : Table) (old new : Database) (has : HasTables old) (ours : Has all_
         others = λ u there free. others u (subst (λ (s : Schema). Has s.tables u) has.begins.made_of there) (λ same. free (subst (Has all_trees) (sym same) (has_map (λ (x : Table). x.tree) all_tables t ours)));
       }
 
+  -- a write that makes the rows of t the set S (`Makes`) leaves a campaign's other tables as they were (`Alters`)
   pub altered : (S : Set) → Makes schema t old new S → Alters t S old new
   altered S makes =
       record { rows = makes.rows; others = λ u listed apart. makes.others u (among_all has.begins.tables u listed) apart }

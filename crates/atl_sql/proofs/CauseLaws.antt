@@ -67,6 +67,7 @@ module _ (old new : State) where
 -- ---- one statement after another
 
 module _ {S : Type 0} (g : Ghosts S) (own : Statements) where
+  -- if `count` statements of `own` lead from `a` to `b`, and some lead from `b` to `c`, some lead from `a` to `c`
   pub reached_then : (count : ℕ) (a b c : Held S) → Leads g own count a b → IsReached g own b c → IsReached g own a c
   reached_then zero a b c same rest = subst (λ h. IsReached g own h c) (sym same) rest
   reached_then (suc count) a b c first rest = let whole = reached_then count first.0 b c first.2 rest in (suc whole.0, (first.0, first.1, whole.1))
@@ -135,8 +136,7 @@ module _ {S : Type 0} (g : Ghosts S) (own : Statements) (e : Error) where
     ];
   }
 
-  -- an error that a transaction gives up to `mid` is one that it gives up to the later `new`, until which the disk has
-  -- failed at least as often
+  -- an error that a transaction gives up to `mid` is one that it gives up to `new`, if by then no failure is forgotten
   pub gives_until : (old mid new : Held S) → (state g mid).faults ≤ (state g new).faults → Gives g own e old mid
       → Gives g own e old new
   gives_until old mid new counts gave = record {

@@ -51,7 +51,7 @@ pub record Loses (schema : Schema) (table : Table) (p : Row → Bool) (db next :
   pub keyed : AreKeyedByRowid (next table.tree)
   pub others : (t : Table) → Has schema.tables t → t.tree ≢ table.tree → next t.tree ≡ db t.tree
 
--- after an edit the rows that pass the test `p` are gone, the row `new` is there, and nothing else changed
+-- the row `new` is there in place of all rows that pass the test `p`; no other row or table of the schema changed
 pub record Swaps (schema : Schema) (table : Table) (p : Row → Bool) (new : Row) (db next : Trees) : Type 0 where
   pub there : Has (next table.tree) new
   pub from : (r : Row) → Has (next table.tree) r → (r ≡ new) ⊎ (Has (db table.tree) r × (p r ≡ false))
@@ -92,7 +92,7 @@ module _ (schema : Schema) (table : Table) (unlinked : (olds news : List Row) �
     abbrev task : Task
     task = record { limit = limit; keys = Enforced; schema = schema; table = table; params = params }
 
-    -- putting the row `new` adds it, as SQL casts it, and keeps all other rows and tables
+    -- putting the row `new` adds it, as SQL casts it, and no other row; all other rows and tables are kept
     pub puts : (new : Row) (db : Trees) (w : Written) → AreKeyedByRowid (db table.tree) → Puts task new db (Ok w)
         → Has (w.trees table.tree) (cast_row table new)
         × ((r : Row) → Has (w.trees table.tree) r → (r ≡ cast_row table new) ⊎ Has (db table.tree) r)

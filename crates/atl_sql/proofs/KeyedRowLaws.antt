@@ -109,8 +109,8 @@ abbrev pub MeansUpsert : ℕ → ℕ → List ℕ → List ℕ → ℕ → List 
 MeansUpsert tree at positions sql width terms hole project = (more : List Table) (indexes : List Index)
     → command_of (understood (all_tables_and_others more indexes) sql) ≡ InsertOr at Abort (Values terms width) (conflict_clause positions (record { lets = []; body = update_query tree hole project }) ∷ [])
 
--- The terms of an upsert make a row that shows these values, whether it is inserted or updated, and under any rowid.
--- The other parameters are those of `MeansUpsert`.
+-- The terms of an upsert make a row that shows these values under any rowid, whether it is inserted by `terms`, `width`
+-- for a row, or updated by `project`. What the UPDATE reads has its row's rowid at the index `hole`.
 pub record MakesValues (t : Table) (positions : List ℕ) (width : ℕ) (terms : List Term) (hole : ℕ) (project : List Term) (values : Row) : Type 0 where
   -- the terms of the INSERT make one row: NULL, as a rowid that SQL is to choose, and the values
   pub source : value_rows (values ++ []) width (length terms / width) terms ≡ (Null ∷ values) ∷ []
@@ -126,8 +126,7 @@ pub record MakesValues (t : Table) (positions : List ℕ) (width : ℕ) (terms :
   pub changed : (more r : Row) → at_places positions r ≡ take (length positions) values
       → visible_row t (cast_row t (eval_all project ((values ++ more) ∷ r ∷ []))) ≡ values
 
--- the table of index `at` among the tables of a campaign, whose columns at the indexes `positions` are its key of whole
--- numbers
+-- the table of index `at` among a campaign's; its columns at the indexes `positions` are its key of whole numbers
 module _ (tree : ℕ) (name : List ℕ) (columns : List Column) (positions : List ℕ) (at : ℕ) where
   abbrev t : Table
   t = table tree name columns None positions (positions ∷ []) []

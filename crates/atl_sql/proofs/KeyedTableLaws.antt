@@ -82,8 +82,7 @@ key_is k =
 abbrev keyed_insert_terms : ℕ → List Term
 keyed_insert_terms width = lit Null ∷ map (col 0) (range_with_len 0 width)
 
--- the terms of the UPDATE of a row of `width` columns: it keeps the first `key`, its key, and takes the parameters for
--- the others
+-- the terms of the UPDATE of a row of `width` columns: it keeps the first `key`, its key, and else takes the parameters
 abbrev update_terms : ℕ → ℕ → List Term
 update_terms key width = map (col 1) (range_with_len 0 (key + 1)) ++ map (col 0) (range_with_len key (width - key))
 

@@ -115,6 +115,7 @@ module _ (p : Row → Bool) (rows found : List Row) (keyed : AreKeyedByRowid row
 
 -- ---- an edit keeps the rowids apart
 
+-- once the rows with these rowids are taken out, the rowids are still integers, no two alike
 pub keyed_without : (ids : List ℤ) (rows : List Row) → AreKeyedByRowid rows → AreKeyedByRowid (without_all rows ids)
 keyed_without [] rows keyed = keyed
 keyed_without (id ∷ ids) rows keyed = keyed_without ids (without_rowid id rows) (record {
@@ -143,7 +144,6 @@ apart_put new (r ∷ rows) apart free =
     go Greater is more = (all_from _ (r ∷ rows) untaken, apart)
 
 -- once a row is put whose rowid is an integer that no row had, the rowids are still integers, no two alike
--- (`AreKeyedByRowid`)
 pub keyed_put : (new : Row) (rows : List Row) → AreKeyedByRowid rows → is_taken rows new ≡ false
     → is_int (rowid new) ≡ true → AreKeyedByRowid (put_row new rows)
 keyed_put new rows keyed free int =

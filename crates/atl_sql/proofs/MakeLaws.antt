@@ -105,8 +105,7 @@ module _ (schema : Schema) (among : (u : Table) → Has all_tables u → Has sch
   }
 
   -- An edit that swaps the rows with the key of `v`, which the test `p` finds, for the row `n` leaves a sound database
-  -- sound, with `v` in place of these (`Makes`). Premises: SQL shows `n` as `v`, the schema stays, and the trees list
-  -- it (`IsDatabase`).
+  -- sound, with `v` in their place (`Makes`). Premises: SQL shows `n` as `v`; the schema stays, and the trees list it.
   pub swaps_make : (p : Row → Bool) (n v : Row) (old new : Database) → Swaps schema t p n old.trees new.trees
       → visible_row t n ≡ v → Tests p (take key v) (old.trees t.tree)
       → IsSoundDatabase schema old.trees → IsDatabase new → new.schema ≡ schema

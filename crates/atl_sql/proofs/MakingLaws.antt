@@ -58,6 +58,7 @@ MakesFirst count old new =
 pub makes_none : (s : State) → MakesFirst 0 s s
 makes_none s = (refl, λ bare. (bare, λ some. absurd (omega (arith, some))))
 
+-- if the first `count` tables are made, and then the next one, one table more is made
 pub makes_more : (count : ℕ) (a b c : State) → MakesFirst count a b
     → Extends (schema_of_first count) (schema_of_first (count + 1)) b c → MakesFirst (count + 1) a c
 makes_more count a b c first next =

@@ -53,7 +53,7 @@ pub record IsNumberedTable (t : Table) (at width : ℕ) : Type 0 where
   pub position : (more : List Table) → slice_get (all_tables ++ more) at ≡ Some t
   -- the table's tree is one of the file, not that of a temporary table
   pub plain : (db : Trees) → overlay db [] t.tree ≡ db t.tree
-  -- the text `upsert t 1` means the upsert of a row by its number
+  -- the text `upsert t 1` means the INSERT of a row by `given_row`; a row of its number is updated by `changed_row`
   pub puts : (more : List Table) (indexes : List Index)
       → command_of (understood (all_tables_and_others more indexes) (upsert t 1)) ≡ InsertOr at Abort (Values (given_row width) (width + 2)) (conflict_clause (0 ∷ []) (record { lets = []; body = update_query t.tree (width + 1) (changed_row width) }) ∷ [])
   pub puts_plain : AlwaysPlain (upsert t 1)

@@ -40,7 +40,8 @@ use Rattle.atl_sql.proofs.Terms.{cast_null, cast_int, upsert_finds_number, one_n
 campaign_table_is_listed : Has all_tables campaign_table
 campaign_table_is_listed = listed Own
 
--- the terms of the INSERT of a campaign row: the id is 1, as its rowid, the format is 2, all else are parameters
+-- the terms of the INSERT of a campaign row: the id 1 as its rowid, NULL in the column `id` itself, the format 2, and
+-- the parameters in all other columns
 abbrev pub own_terms : List Term
 own_terms =
     lit (Int (pos 1)) ∷ lit Null ∷ lit (Int (pos 2)) ∷ col 0 0 ∷ col 0 1 ∷ col 0 2 ∷ col 0 3 ∷ col 0 4 ∷ col 0 5 ∷ []

@@ -18,7 +18,7 @@ use Rattle.atl_sql.specs.Writes.{Writes, WritesRow, WritesRows}
 use Rattle.atl_sql.proofs.PutsLaws.{IsPartlyPut, inside_rows, inside_both, none_yet, none_put, one_put, all_put}
 use Rattle.atl_sql.proofs.WriteLaws.{HandsOn, HasDone, begins, goes_on, stops, stops_second, two_steps, weaker, writes_among_more, among_each}
 
--- some rows of the list `all` are put without an error, and the rows `rest` are still to put
+-- on a clean disk, upserts of rows of the list `all` put some of them without an error; rows `rest` are still to put
 pub record HasPutSome {S : Type 0} (g : Ghosts S) (table : Table) (key : ℕ) (rest all : List Row) (old now : MutBor (Held S)) : Type 0 where
   pub so_far : HasDone g (RowStatements (upsert table key) (Has all)) (DoesInside HasTables (IsPartlyPut table key rest all)) old now
   pub left : (row : Row) → Has rest row → Has all row
@@ -63,6 +63,7 @@ module _ {S : Type 0} (g : Ghosts S) (table : Table) (key : ℕ) where
 
   -- ---- in a loop
 
+  -- before the first step all rows of the list are still to put
   pub putting_begins : (rest all : List Row) {a : MutBor (Held S)} → rest ≡ all → HasPutSome g table key rest all a a
   putting_begins rest all same =
       record { so_far = begins g (none_yet table key rest all same); left = λ row there. subst (λ (l : List Row). Has l row) same there }
@@ -91,6 +92,7 @@ module _ {S : Type 0} (g : Ghosts S) (table : Table) (key : ℕ) where
         → Writes g (RowStatements (upsert table key) (Has all)) Does r a c
     putting_failed so_far more failed = stops_second g so_far.so_far (next_part so_far more) failed
 
+  -- once no row is left to put, all rows of the list are written, without an error
   pub putting_ends : (rest all : List Row) {a b : MutBor (Held S)} → rest ≡ [] → HasPutSome g table key rest all a b
       → WritesRows {A = Unit {0}} g table key all (Ok (tt {0})) a b
   putting_ends rest all none so_far = weaker g (all_put table key rest all none) so_far.so_far

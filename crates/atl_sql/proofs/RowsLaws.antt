@@ -23,6 +23,7 @@ use Rattle.atl_sql.proofs.KeepLaws.{if_ok}
 abbrev pub Reads : Format → List ℕ → (Trees → List Row) → ℕ → Type 1
 Reads f sql in_table count = (old new : State) (rows : List Row) → Shown sql [] old new rows → HasTablesOf f old.now.schema → IsPermutation (in_table old.now.trees) (map (first_columns count) rows)
 
+-- if `old` has the tables of the format `f`, the connection on which the SELECT is asked has them too
 pub asked_has_tables : (f : Format) (old before : State) → IsAsked old before → HasTablesOf f old.now.schema
     → HasTablesOf f before.now.schema
 asked_has_tables f old before select_of has = subst (λ (d : Database). HasTablesOf f d.schema) (sym select_of.same) has

@@ -31,6 +31,7 @@ module _ (old new : State) (inside : IsTrue old.in_transaction) (sql : List ℕ)
   shows_keep c row rows None h = unchanged_keeps old new (inl h.3)
   shows_keep c row rows (Some what) h = writes_keep (Some what) _ _ row h.0 h.1
 
+  -- a query that shows its rows commits nothing
   pub shown_keeps : (rows : List Row) → Shown sql params old new rows → KeepsCommit old new
   unfolding Shown
   shown_keeps rows h = shows_keep h.0 _ rows h.0.returning h.2
@@ -41,6 +42,7 @@ module _ (old new : State) (inside : IsTrue old.in_transaction) (sql : List ℕ)
   fails_keep c row e (Some what) (inl h) = unchanged_keeps old new (inl h.1)
   fails_keep c row e (Some what) (inr h) = unchanged_keeps old new (inr h.3)
 
+  -- a refused query commits nothing, also one that needs a transaction where none is open (`IsTooLate`)
   pub refused_keeps : (e : Error) → FailsToQuery sql params old new e ⊎ IsTooLate sql params old new e
       → KeepsCommit old new
   unfolding FailsToQuery IsNotRun
@@ -90,8 +92,7 @@ module _ {S : Type 0} (g : Ghosts S) (sql : List ℕ) (old begun mid end : Held 
     idle = ended;
   }
 
-  -- a SELECT that is refused inside the transaction failed as a query, and not because it needs a transaction and none
-  -- was open (`IsTooLate`)
+  -- a SELECT that is refused inside the transaction failed as a query, and not because none was open (`IsTooLate`)
   not_late : (e : Error)
       → FailsToQuery sql [] (state g begun) (state g mid) e ⊎ IsTooLate sql [] (state g begun) (state g mid) e
       → FailsToQuery sql [] (state g begun) (state g mid) e

@@ -1,6 +1,6 @@
 -- Laws on the statements of one table: which rows it has after an upsert or a DELETE, and what a text of SQL does.
 -- `old` and `new` are the states before and after a statement, and `count` is how many rows it changed. `db` are the
--- trees before it, and `out` has the database after it. `params` and `values` are the parameters of the statement,
+-- trees before it, and `out` has the database after it. `params` or `values` are its parameters, `text` is its text,
 -- `limit` is how many steps its query may take, if there is a limit, and `g` the kind of store. Before a statement the
 -- rowids in the tree are integers, no two alike (`AreKeyedByRowid`). A tree holds the rows of one table.
 use Rattle.std.proofs.Common.{IsTrue, ◌≡◌, ◌/◌, ℕ, ℤ, Bool, false, List, [], ◌∷◌, ◌++◌, length, slice_get, Option, Some, None, Result, Ok, sym, ap, ◌∙◌, subst}

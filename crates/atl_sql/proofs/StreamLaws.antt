@@ -26,6 +26,7 @@ use Rattle.atl_sql.specs.declared.fault.ReadFault.TheVariants.{Memory}
 use Rattle.atl_sql.proofs.KeepLaws.{survives_more, if_ok, if_err}
 use Rattle.atl_sql.proofs.SelectingLaws.{never_other, no_fewer}
 
+-- a call that changed nothing committed nothing, and left the tables as they were (`Rests`)
 pub rests_unchanged : (old new : State) → IsUnchanged old new → Rests old new
 rests_unchanged old new h = record { was_open = λ _. h.0.was_open; same = λ _. (inr h.0.now_is, h.0.committed_is) }
 
@@ -48,6 +49,7 @@ module _ (sql : List ℕ) (old new : State) (plain : IsPlain (understood old.now
 asked_unchanged : (old now : State) → IsUnchanged old now → Survives old now (λ _. ⊥) → IsAsked old now
 asked_unchanged old now h survives = record { was_open = λ _. h.0.was_open; is_open = λ _. h.0.is_open; same = h.0.now_is; limit = survives.limit; faults = survives.counts }
 
+-- a step that changed nothing, and then one that committed nothing (`Rests`), together committed nothing
 pub rests_then : (old mid new : State) → IsUnchanged old mid → Rests mid new → Rests old new
 rests_then old mid new first rests = record {
   was_open = λ up. first.0.was_open;
@@ -93,7 +95,8 @@ map_at_end : {A B : Type 0} (f : A → B) (xs : List A) (x : A) → map f (xs ++
 map_at_end f [] x = refl
 map_at_end f (y ∷ xs) x = ap (λ ys. f y ∷ ys) (map_at_end f xs x)
 
--- outside a transaction a query is running; if the disk is clean, it has given the rows `given`, and changed nothing
+-- Outside a transaction a query is running; if the disk is clean, it has given the rows `given`, and changed nothing.
+-- A crash leaves nothing new, and no failure is forgotten (`Survives`).
 pub record IsGiving {S : Type 0} (g : Ghosts S) (sql : List ℕ) (old : Held S) (given : List Row) (now : Held S) : Type 0 where
   pub idle : now.in_transaction ≡ false
   pub survives : Survives (state g old) (state g now) (λ _. ⊥)
@@ -102,8 +105,8 @@ pub record IsGiving {S : Type 0} (g : Ghosts S) (sql : List ℕ) (old : Held S) 
 -- the query `sql` is asked on the connection `old`
 module _ {S : Type 0} (g : Ghosts S) (sql : List ℕ) (old : Held S) where
   module _ {A : Type 0} (forms : List Form) (shown : A → Row) where
-    -- if the query, which is plain, is refused at the start with `e`, outside a transaction, and `r` is the fault of
-    -- `e`, the read is as promised (`Streams`)
+    -- if the query, which is plain, is refused at the start with `e`, outside a transaction, `r` is the fault of `e`,
+    -- and no failure is forgotten (`Survives`), the read is as promised (`Streams`)
     pub not_begun : {Z : Type 0} (now : Held S) (e : Error) (r : Result (Option (Vec A Z)) ReadFault)
         → IsPlain (understood old.schema sql) → IsErrAnd r (λ fault. fault ≡ read_fault e)
         → (HasCleanDisk (state g now) → FailsToQuery sql [] (state g old) (state g now) e)

@@ -53,6 +53,7 @@ truth_again : (b : Bool) → is_true (from_truth (Some b)) ≡ b
 truth_again true = refl
 truth_again false = refl
 
+-- for integers SQL's = (`equal`) says the same as the order of values (`value_cmp`)
 pub equal_ints : (a b : Value) → is_int a ≡ true → is_int b ≡ true → equal Binary a b ≡ is_eq (value_cmp a b)
 unfolding binary
 equal_ints (Int m) (Int n) p q = truth_again _
@@ -90,6 +91,7 @@ ne_or_eq Less h = absurd (true≢false h)
 ne_or_eq Equal h = refl
 ne_or_eq Greater h = absurd (true≢false h)
 
+-- two integers of which SQL's <> (`differ`) isn't true are equal in the order of values
 pub differ_not : (a b : Value) → is_int a ≡ true → is_int b ≡ true → differ a b ≡ false → is_eq (value_cmp a b) ≡ true
 unfolding binary
 differ_not (Int m) (Int n) p q h = ne_or_eq _ (sym (truth_again _) ∙ h)
@@ -247,8 +249,7 @@ module _ (schema : Schema) (t : Table) (unlinked : (olds news : List Row) → wo
       let hit = are.sound x (inl refl) in
       inr (hit.0, hit.1, hit.2, updates new db hit.0 x w keyed hit.1 hit.3 (aimed hit.0 hit.1) h)
 
-  -- if the rowids in the tree are integers, no two alike, an upsert that ran put the new row, or changed the row with
-  -- its key (`Upserted`)
+  -- where the rowids are integers, no two alike, an upsert that ran put the new row, or changed the row with its key
   pub upserts : (new : Row) (db : Trees) (w : Written) → AreKeyedByRowid (db t.tree)
       → ((r : Row) → Has (db t.tree) r → column (given new r) position ≡ rowid r)
       → Tries upsert_task Abort (conflict_clause target q ∷ []) new db (Ok w) → Upserted new db w.trees

@@ -167,8 +167,7 @@ module _ {S : Type 0} (g : Ghosts S) where
     survives = one.survives;
   }
 
-  -- after a write without an error, a second one that ended with an error, which `r` hands on, ends both so, whatever
-  -- they were to do
+  -- after a write without an error, a second that ended with an error, handed on by `r`, ends both so, whatever they do
   pub stops_second : {own : Statements} {First Second Does : State → State → Type 0} {A X Z : Type 0} {x : X} {e : Error} {r : Result A Error} {a b c : MutBor (Held S)}
       → Writes g own First (Ok x) a b → Writes g own Second {A = Z} (Err e) b c → HandsOn e r → Writes g own Does r a c
   stops_second {e = e} one two failed =

@@ -18,7 +18,7 @@ abbrev pub RunsOne : Statements → State → State → Type 0
 RunsOne own before after =
     (sql : List ℕ) × (params : Row) × own sql params × (count : ℕ) × ExecutesInside 0 sql params before after (Ok count)
 
--- `count` statements of the set `own`, run one after another, lead from the connection `old` to `new`
+-- `count` statements of `own`, run in turn in a transaction without an error, lead from the connection `old` to `new`
 abbrev pub Leads : {S : Type 0} → Ghosts S → Statements → ℕ → Held S → Held S → Type 0
 Leads g own zero old new = old ≡ new
 Leads {S} g own (suc count) old new = (mid : Held S) × RunsOne own (state g old) (state g mid) × Leads g own count mid new

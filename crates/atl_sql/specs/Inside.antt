@@ -93,6 +93,6 @@ pub record LeavesOff (old new : State) : Type 0 where
   pub idle : new.in_transaction ≡ false
 
 -- what a crash may leave besides what it could have left before: trees to which `Does` was done, with other tables kept
--- (`DoesAndKeeps`), if the tables were as `Before` says
+-- (`DoesAndKeeps`), if the tables were as `Before` says, and else any trees
 abbrev pub MayLeave : (Database → Type 0) → (Database → Database → Type 0) → State → Trees → Type 0
 MayLeave Before Does old trees = (db : Database) × (Before old.now → DoesAndKeeps Does old.now db) × (trees ≡ db.trees)

@@ -7,8 +7,8 @@ use Rattle.atl_descriptions.specs.Tables.{campaign_table}
 use Rattle.atl_sql.specs.Shown.{CampaignRowValue, campaign_row, campaign_row_in}
 use Rattle.atl_sql.specs.Inside.{Puts}
 
--- What putting the campaign row does. If the table is empty, a row of the second format is added, with the values
--- `head` and the text `world`. If its only row is of the second format, it gets these values and keeps its world text.
+-- Putting the campaign row: an empty table gets a row of the second format with the values `head` and the text `world`.
+-- If the only row is of the second format, it gets these values and keeps its text. Other tables stay (`Puts`).
 pub record PutsCampaignRow (head : CampaignRowValue) (world : List ℕ) (old new : Database) : Type 0 where
   pub first : rows_in campaign_table old.trees ≡ [] → Puts campaign_table 1 (campaign_row head world) old new
   pub again : (before : CampaignRowValue) (text : List ℕ)
@@ -16,7 +16,7 @@ pub record PutsCampaignRow (head : CampaignRowValue) (world : List ℕ) (old new
       → Puts campaign_table 1 (campaign_row head text) old new
 
 -- if the only campaign row is of the first format and has the values `head`, with any world text (`before`), it becomes
--- the row of the second format with these values and the world text `text`
+-- the row of the second format with these values and the text `text`; a campaign's other tables stay (`Puts`)
 abbrev pub UpgradesCampaignRow : CampaignRowValue → List ℕ → Database → Database → Type 0
 UpgradesCampaignRow head text old new =
     (before : List ℕ)

@@ -1,6 +1,6 @@
 -- What reading all rows of a table gives. `old` and `new` are the connection before and after the read. `forms` are the
 -- forms of the columns, and `shown` gives the row that a value was read of. `g` is the kind of store, in memory or in
--- files. A tree holds the rows of one table.
+-- files. A tree holds the rows of one table. A shield compares each read with digests of what was written.
 use Rattle.std.specs.Prelude.{◌≡◌, ◌≢◌, ◌≤◌, ◌⊎◌, ◌++◌, ℕ, List, [], ◌∷◌, length, map, IsTrue, IsPermutation, false, Option, Result, IfOk, IfErr, IfSome, OnOk}
 use Rattle.std.specs.declared.vec.Vec.{Vec}
 use Rattle.sqlite_trees.specs.declared.store.Store.{Ghosts}
@@ -56,8 +56,7 @@ module _ {S : Type 0} (g : Ghosts S) (sql : List ℕ) (old : Held S) where
     -- On a clean disk an open connection was open before, with its tables as they were or as last committed (`Rests`).
     pub rests : HasCleanDisk (state g new) → Rests (state g old) (state g new)
     -- On a clean disk a crash leaves only what it could have left before, and only a failure closes the connection.
-    -- A disk that isn't clean stays so, and no failure is forgotten. The limit on a query's steps stays, and so does a
-    -- shield, which compares each read with digests of what was written (`Survives`).
+    -- A disk that isn't clean stays so, no failure is forgotten, and the limit on steps and a shield stay (`Survives`).
     pub survives : Survives (state g old) (state g new) (λ _. ⊥)
     pub idle : new.in_transaction ≡ false
 
@@ -66,7 +65,7 @@ module _ {S : Type 0} (g : Ghosts S) (sql : List ℕ) (old : Held S) where
   -- is clean.
   pub record ReadsRows {A Z : Type 0} (forms : List Form) (shown : A → Row)
       (result : Result (Vec A Z) ReadFault) (new : Held S) : Type 0 where
-    -- Ok has all rows that the SELECT shows, in their order, and each value is of its column's form.
+    -- Ok has all rows that the SELECT shows, in their order: of each the first values, one for each form, in this form.
     pub rows : HasCleanDisk (state g new)
         → IfOk result (λ all. (rows : List Row) × Selects rows
         × (map shown all.items ≡ map (first_columns (length forms)) rows)
@@ -82,8 +81,7 @@ module _ {S : Type 0} (g : Ghosts S) (sql : List ℕ) (old : Held S) where
     -- On a clean disk an open connection was open before, with its tables as they were or as last committed (`Rests`).
     pub rests : HasCleanDisk (state g new) → Rests (state g old) (state g new)
     -- On a clean disk a crash leaves only what it could have left before, and only a failure closes the connection.
-    -- A disk that isn't clean stays so, and no failure is forgotten. The limit on a query's steps stays, and so does a
-    -- shield, which compares each read with digests of what was written (`Survives`).
+    -- A disk that isn't clean stays so, no failure is forgotten, and the limit on steps and a shield stay (`Survives`).
     pub survives : Survives (state g old) (state g new) (λ _. ⊥)
     pub idle : new.in_transaction ≡ false
 
@@ -91,7 +89,7 @@ module _ {S : Type 0} (g : Ghosts S) (sql : List ℕ) (old : Held S) where
   -- committed. All this is so if the disk is clean. When it is None isn't said.
   pub record Streams {A Z : Type 0} (forms : List Form) (shown : A → Row)
       (result : Result (Option (Vec A Z)) ReadFault) (new : Held S) : Type 0 where
-    -- With Ok of a list, it has all rows that the SELECT shows, and each value is of its column's form.
+    -- With Ok of a list, it has all rows that the SELECT shows, in their order: of each the first values, in the forms.
     pub rows : HasCleanDisk (state g new)
         → IfOk result (λ read. IfSome read (λ all. (rows : List Row) × Selects rows
         × (map shown all.items ≡ map (first_columns (length forms)) rows)
@@ -103,8 +101,7 @@ module _ {S : Type 0} (g : Ghosts S) (sql : List ℕ) (old : Held S) where
     -- On a clean disk an open connection was open before, with its tables as they were or as last committed (`Rests`).
     pub rests : HasCleanDisk (state g new) → Rests (state g old) (state g new)
     -- On a clean disk a crash leaves only what it could have left before, and only a failure closes the connection.
-    -- A disk that isn't clean stays so, and no failure is forgotten. The limit on a query's steps stays, and so does a
-    -- shield, which compares each read with digests of what was written (`Survives`).
+    -- A disk that isn't clean stays so, no failure is forgotten, and the limit on steps and a shield stay (`Survives`).
     pub survives : Survives (state g old) (state g new) (λ _. ⊥)
     pub idle : new.in_transaction ≡ false
 
@@ -113,8 +110,8 @@ abbrev pub AddsRow : {A : Type 0} → List Form → (A → Row) → List A → R
 AddsRow forms shown old row new =
     (one : _) × (new ≡ old ++ one ∷ []) × (shown one ≡ first_columns (length forms) row) × IsTyped forms row
 
--- Ok of `result` has all rows of a table, each as often as it is there, if the disk is clean and the schema begins with
--- the tables of the format `since`. `in_table` gives the rows of the table by the trees of the database.
+-- Ok of `result` has all rows of a table, each as often as it is there, in any order, if the disk is clean and the
+-- schema begins with the tables of the format `since`. `in_table` gives the table's rows by the trees of the database.
 abbrev pub GivesTable : {S A Z : Type 0} → Ghosts S → Format → (Trees → List Row) → (A → Row)
     → Result (Vec A Z) ReadFault → Held S → Held S → Type 0
 GivesTable g since in_table shown result old new =

@@ -1,4 +1,4 @@
-//! Runs one statement inside a transaction: all writes of this crate go through `run`.
+//! Runs one statement inside a transaction; Err has its error. All writes of this crate go here.
 ghost use Rattle.sqlite.specs.Values.{bound};
 ghost use Rattle.atl_descriptions.specs.Statements.{OneStatement};
 ghost use Rattle.atl_sql.specs.Writes.{Writes, RunsStatement};

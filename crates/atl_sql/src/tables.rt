@@ -82,6 +82,7 @@ pub(crate) fn are_first_tables(tables: &[Table], count: usize) -> bool
 
 // ---- the tables are made
 
+/// Makes the ten tables, by these descriptions, in a database that has nothing (`IsBlank`).
 fn create_each<S: Alter>(tx: &mut Transaction<'_, S>, tables: &[Description]) -> Result<(), Error>
     requires { map (λ t. t.create.now) tables.now ≡ map creation_of all_parts }
     ensures { Writes S.Store Creations (DoesInside IsBlank AreEmpty) result tx.old.conn
@@ -94,7 +95,7 @@ fn create_each<S: Alter>(tx: &mut Transaction<'_, S>, tables: &[Description]) ->
 }
 
 /// Makes the ten tables, each without a row, if the database has no table, index, view or trigger
-/// (`IsBlank`), and the disk is clean.
+/// (`IsBlank`), and the disk is clean. Err has the error of a statement.
 pub fn create_tables<S: Alter>(tx: &mut Transaction<'_, S>) -> Result<(), Error>
     ensures { Writes S.Store Creations (DoesInside IsBlank AreEmpty) result tx.old.conn
         tx.new.conn }
@@ -102,7 +103,8 @@ pub fn create_tables<S: Alter>(tx: &mut Transaction<'_, S>) -> Result<(), Error>
     create_each(tx, &described_tables())
 }
 
-/// Runs the CREATE TABLE text of `market`, which the first format doesn't have. If Ok, it has run.
+/// Runs the CREATE TABLE text of `market`, which the first format lacks. If Ok, it has run, on a
+/// clean disk. Err has its error.
 pub fn create_market<S: Alter>(tx: &mut Transaction<'_, S>) -> Result<(), Error>
     ensures { Writes S.Store (OneStatement (creation_of Markets) [])
         (RunsStatement (creation_of Markets) []) result tx.old.conn tx.new.conn }

@@ -85,7 +85,7 @@ booked_row things r entry thing least most there some =
       some = some;
     }
 
--- the thing of a row's account is one of the first `things` things
+-- the thing of the account that a row is read as (IsBooked) is one of the first `things` things
 pub account_there : (things : ℕ) (r : StoredBooks) (h : IsBooked things r) → thing_index h.account.1 < things
 account_there things r h = let is = sym (ap thing_index h.numbered) ∙ index_of_thing_at (as_u32 r.thing) in omega (arith, is, h.there)
 

@@ -158,8 +158,7 @@ module _ (f : Format) (w : WorldValue) (p : Parts) where
         reported = (k Mail (omega arith)).1;
       }
 
-  -- If rows keep rules 1 to 10, the campaign read from them has at most 1,000,000 units and regions together
-  -- (IsCountable).
+  -- if rows keep rules 1 to 10, their campaign has at most 1,000,000 units and regions together (IsCountable)
   pub countable-said : KeepsRulesBelow f w p 11 → IsCountable (campaign_of w p)
   countable-said k = let range = AreInRange-said w p (k Ranges (omega arith)) in omega (arith, range.few_units, range.few_regions)
 

@@ -73,8 +73,7 @@ module _ (faction : ℕ → Option ℕ) where
   abbrev Alike : List ℕ → Type 0
   Alike ns = (n k x y : ℕ) → IsListed n ns → IsListed k ns → faction n ≡ Some x → faction k ≡ Some y → x ≡ y
 
-  -- if a list passes one_holder with its first number's faction, this is the faction of each number of the list that
-  -- has one
+  -- if a list passes one_holder with its first number's faction, each number of it that has a faction has this one
   first_holds : (m z : ℕ) (ms : List ℕ) → faction m ≡ Some z → one_holder faction (Some z) ms ≡ true → (n x : ℕ)
       → IsListed n (m ∷ ms) → faction n ≡ Some x → x ≡ z
   first_holds m z ms first h n x (inl same) is = same_Some x z (sym is ∙ ap faction same ∙ first)

@@ -31,7 +31,7 @@ module _ {K : Type 0} {R : K → K → Ordering} (o : IsTotalOrder R) where
           less_left _ _ (o.antisymm (get_or (x ∷ xs) k x) (get_or (x ∷ xs) (k + 1) x)) (order k x (omega arith) within)
           (apart_from_distinct (eq_by_cmp R) (x ∷ xs) k (k + 1) x apart (omega arith) within)
 
--- in keys that rise strictly, the key x at index i - 1 is less than the key y at index i
+-- in keys that rise strictly, x at index i - 1 is less than y at index i, where i is from 1 to one below their count
 pub less_at : {K : Type 0} (R : K → K → Ordering) (ks : List K) (i : ℕ) (x y : K) → 1 ≤ i → i < length ks
     → x ≡ get_or ks (i - 1) x → y ≡ get_or ks i y → IsStrictlySortedBy R ks → R x y ≡ Less
 less_at R ks i x y some within x_is y_is rise =

@@ -71,8 +71,7 @@ pub record IsWithoutMarkets (c : CampaignValue) : Type 0 where
   pub stocks : HasNoStocks c
   pub entries : (e : BooksEntry) (t : Thing) → first_entry_count ≤ entry_index e → amount_in c.books e t ≡ pos 0
 
--- the tables of the format can hold the campaign: the first format if it uses no markets (`IsWithoutMarkets`), the
--- second always
+-- the format's tables can hold the campaign: those of the first if it uses no markets, those of the second always
 abbrev pub Fits : Format → CampaignValue → Type 0
 Fits First c = IsWithoutMarkets c
 Fits Second c = ⊤

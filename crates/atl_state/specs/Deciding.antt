@@ -18,7 +18,7 @@ pub record HasOwnerInside (c : CampaignValue) (n : ℕ) (s : Structure) : Type 0
 abbrev pub guard_of : CampaignValue → ℕ → Option ℕ
 guard_of c n = option_and_then (λ u. if guards u then Some u.faction else None) (get c.units n)
 
--- whether the factions of two units that may guard don't conflict: they are equal, or one of them is None
+-- whether the factions of two units agree, None for a unit that doesn't guard: they are equal, or one of them is None
 abbrev pub agree : Option ℕ → Option ℕ → Bool
 agree None b = true
 agree (Some x) None = true

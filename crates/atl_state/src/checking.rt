@@ -1,5 +1,5 @@
 //! Checks the rows of a campaign by the rules of the tables. See docs/FORMATS.md, "Rules of the
-//! tables".
+//! tables". A call as `keeps_known` tests the one rule that it is named after.
 ghost use Rattle.std.specs.Prelude.{◌≡◌, IsTrue, ◌↔◌};
 ghost use Rattle.std.specs.List.{list_all};
 ghost use Rattle.atl_world.specs.Worlds.{IsWorld};
@@ -158,6 +158,7 @@ fn are_booked(format: Format, world: &World, parts: &Parts) -> bool
         .all(|row| is_booked(format, world, row))
 }
 
+/// Whether rows of `has` are of units that are there, and rows of `market` of markets of the world.
 fn are_goods_known(world: &World, parts: &Parts, campaign: &Campaign) -> bool
     ensures { IsTrue result ↔
         (IsTrue (list_all (is_of_unit campaign.now.value) parts.now.has)
@@ -255,6 +256,7 @@ fn check_rules_8_to_12(
     Ok(())
 }
 
+/// Checks all twelve rules. `rows` are the parts as they come in.
 fn check_parts(
     alloc: Global,
     world: &World,

@@ -39,8 +39,7 @@ use Rattle.atl_writing.proofs.MarketLaws.{row_has_stock, stock_has_row}
 
 -- ---- a table whose unmarked rows are the campaign's
 
--- a table whose unmarked rows are the wanted ones (`After`) has exactly the wanted rows once the marked rows are
--- rewritten
+-- a table whose unmarked rows are the wanted ones (`After`) has just the wanted rows once the marked rows are rewritten
 all_held : (is_marked : Row → Bool) (After : Row → Type 0) (old new : List Row)
     → ((r : Row) → is_marked r ≡ false → Has old r ↔ After r)
     → HasExactly new (rows_after_rewrite is_marked After (Has old)) → HasExactly new After
@@ -102,8 +101,7 @@ module _ {V : Type 0} (line : ℕ → V → Row) (marks : FinSet nat_cmp) (heads
 
 -- ---- regions, whose stocks are in the table `market`
 
--- the look-up `p` gives a region with the same row as region `v`, which the look-up `o` gives, if the two differ in
--- stocks alone
+-- the look-up `p` gives a region with the same row as region `v` of the look-up `o`, if the two differ in stocks alone
 unstocked_same : (n : ℕ) (o p : Option Region) (v : Region) → option_map unstocked p ≡ option_map unstocked o
     → o ≡ Some v → (w : Region) × (p ≡ Some w) × (row_of_region n w ≡ row_of_region n v)
 unstocked_same n o None v same there = absurd (let e = same ∙ ap (option_map unstocked) there in cc)
@@ -112,8 +110,7 @@ unstocked_same n o (Some w) v same there =
 
 -- ---- units, whose items and skills are in the table `has`
 
--- the look-up `p` gives a unit with the same row as unit `v`, which the look-up `o` gives, if the two differ in items
--- and skills alone
+-- the look-up `p` gives a unit with the same row as unit `v` of look-up `o`, if they differ in items and skills alone
 bare_same : (n : ℕ) (o p : Option Unit) (v : Unit) → option_map without_goods p ≡ option_map without_goods o
     → o ≡ Some v → (w : Unit) × (p ≡ Some w) × (row_of_unit n w ≡ row_of_unit n v)
 bare_same n o None v same there = absurd (let e = same ∙ ap (option_map without_goods) there in cc)
@@ -202,8 +199,7 @@ unmarked_held c old new changes text rest =
           (subst (λ (h : CampaignRowValue). HasExactly (rows_in (table_of part) new.trees) (rows_after_rewrite (is_marked c.marks part) (rows_for (campaign_row h text) c.value part) (Has (rows_in (table_of part) old.trees)))) rest.head (did.rows part));
     }
 
--- tables that hold a campaign `before` hold what is not marked of `c`, if `c` differs from `before` only in what is
--- marked
+-- tables that hold a campaign `before` hold what is not marked of `c`, if the two differ only in what is marked
 pub covers_unmarked : (c : MarkedCampaign) (db : Trees) (text : List ℕ) (before : CampaignValue)
     → Covers c.marks before c.value → Holds db text before → HoldsUnmarked db text c
 covers_unmarked c db text before covers held =
@@ -239,8 +235,7 @@ covers_unmarked c db text before covers held =
         unmarked_rows_agree (stocks_marked c.marks) (MarketRowsOf before.regions) (MarketRowsOf c.value.regions) _ (λ r is. stocks_follow before.regions c.value.regions c.marks r covers.stocks is)
         (λ r is. stocks_follow c.value.regions before.regions c.marks r (λ n item not_marked. sym (covers.stocks n item not_marked)) is) (held.rows Markets)
 
--- tables that held a campaign `before` hold `c` once its marked rows are written, if `c` differs from `before` only in
--- what is marked
+-- tables that held a campaign `before` hold `c` once its marked rows are written, if both differ in marked rows alone
 pub changes_held : (c : MarkedCampaign) (old new : Database) → WritesChanges c old new
     → (text : List ℕ) (before : CampaignValue) → Covers c.marks before c.value → Holds old.trees text before
     → Holds new.trees text c.value

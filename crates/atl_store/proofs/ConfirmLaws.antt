@@ -23,8 +23,7 @@ use Rattle.atl_sql.proofs.StreamLaws.{fails_stay}
 
 -- a query that is plain, without RETURNING and not reading the time (`IsPlain`), from the state `old` to `new`
 module _ (sql : List ℕ) (old new : State) (plain : IsPlain (understood old.now.schema sql)) where
-  -- after a plain query a crash leaves only what it could have left before (`Survives`), since such a query commits
-  -- nothing
+  -- after a plain query, which commits nothing, a crash leaves only what it could have left before (`Survives`)
   pub commits_none : Survives old new (CommitsShowing sql [] old) → Survives old new (λ _. ⊥)
   commits_none = survives_weaker old new _ _ (λ _ db. never_commits sql [] old db plain)
 

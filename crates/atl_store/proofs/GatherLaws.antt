@@ -75,7 +75,7 @@ module _ {S : Type 0} (g : Ghosts S) where
     idle = idle;
   }
 
-  -- reads after reads are reads: together they leave the tables as they were
+  -- reads after reads are reads (`AfterReads`): on a clean disk both together leave the tables as they were
   pub leaves_then : (old mid new : Held S) → AfterReads g old mid → AfterReads g mid new → AfterReads g old new
   leaves_then old mid new one two = record {
     stays = λ clean.
@@ -97,7 +97,6 @@ module _ {S : Type 0} (g : Ghosts S) where
       same.0 ∙ settled (omega (arith, leaves.survives.clean, clean)) (stays.was_open up) ∙ sym same.1
 
   -- on a clean disk, tables that are as before or as last committed (`Rests`) are as before, if all was committed
-  -- (`IsCommitted`)
   rests_stays : (old new : State) → IsCommitted old → HasCleanDisk old → Rests old new → TablesStay old new
   rests_stays old new settled clean rests = record {
     was_open = rests.was_open;
@@ -120,7 +119,6 @@ module _ {S : Type 0} (g : Ghosts S) where
     selects_open rows says = says.2.was_open (shown_open sql _ _ rows says.3)
 
     -- on a clean disk, a read of one table without a fault found all rows, or a value of another type than its column
-    -- (`FoundBySelects`)
     found_one : {Z : Type 0} (r : Result (Vec A Z) ReadFault) → ReadsRows g sql old forms shown r new
         → GivesTable g (select_of_part part).since (select_of_part part).in_table shown r old new
         → HasCleanDisk (state g new)
@@ -166,8 +164,8 @@ module _ {S : Type 0} (g : Ghosts S) where
     fails_one (Err read.Store) reads clean = inl (refuses read.Store (reads.refused clean not_store store_no_memory))
     fails_one (Err read.Refused) reads clean = inr (refuses read.Refused (reads.refused clean not_refused refused_no_memory))
 
-    -- reading one table, with the result `r`, is reading the list with its SELECT alone (`ReadsSome`), with the result
-    -- that loading makes of `r`
+    -- a read of one table with the result `r` (`ReadsRows`, `GivesTable`) is one by the list with its SELECT alone
+    -- (`ReadsSome`), with the result that loading makes of `r`
     pub reads_one : {Z : Type 0} (r : Result (Vec A Z) ReadFault) → ReadsRows g sql old forms shown r new
         → GivesTable g (select_of_part part).since (select_of_part part).in_table shown r old new
         → (kept : Result (Option (Vec A Z)) LoadFault) → kept ≡ rows_or_none r
@@ -268,8 +266,7 @@ module _ {S : Type 0} (g : Ghosts S) where
   found_both xs ys P Q old None (Some b) p q = other_within old xs (xs ++ ys) (has_left xs ys) (each_of_both (λ s. (rows : List Row) × SelectShows g old s.0 rows) xs ys p.all (typed_shows old ys q.0)) p
   found_both xs ys P Q old None None p q = other_within old xs (xs ++ ys) (has_left xs ys) (each_of_both (λ s. (rows : List Row) × SelectShows g old s.0 rows) xs ys p.all q.all) p
 
-  -- on a clean disk, what reads after `mid` found with `P` was found with `Q` in the tables of `old`
-  -- (`FoundBySelects`), if `P` implies `Q`
+  -- on a clean disk, what reads after `mid` found with `P` was found with `Q` in the tables of `old`, if `P` gives `Q`
   found_before : {A : Type 0} (old mid new : Held S) → AfterReads g old mid
       → (selects : List (List ℕ × List Form)) (P Q : A → Type 0) (r : Result (Option A) LoadFault)
       → ReadsSome g mid selects P r new → (o : Option A) → r ≡ Ok o
@@ -289,7 +286,7 @@ module _ {S : Type 0} (g : Ghosts S) where
       found (Ok None) h = h
       found (Err fault) h = tt
 
-  -- if reading by the first list of SELECTs, `xs`, fails, reading by both lists fails with the same fault
+  -- a fault of reading by the first list of SELECTs, `xs`, is also one of reading by both lists
   pub first_fails : {A B : Type 0} (xs ys : List (List ℕ × List Form)) (P : A → Type 0) (Q : B → Type 0) (old new : Held S) (fault : LoadFault) (one : Result (Option A) LoadFault) (r : Result (Option B) LoadFault)
       → ReadsSome g old xs P one new → one ≡ Err fault → IsErrAnd r (λ says. says ≡ fault) → ReadsSome g old (xs ++ ys) Q r new
   first_fails xs ys P Q old new fault one (Ok o) first was says = absurd says
@@ -303,8 +300,7 @@ module _ {S : Type 0} (g : Ghosts S) where
   -- the second stage begins at `mid`, where the first ended
   module _ {A B : Type 0} (xs ys : List (List ℕ × List Form)) (P : A → Type 0) (Q : B → Type 0) (old mid new : Held S) (one : Result (Option A) LoadFault) (two : Result (Option B) LoadFault)
       (first : ReadsSome g old xs P one mid) (second : ReadsSome g mid ys Q two new) (a : Option A) (was_first : one ≡ Ok a) where
-    -- if reading by the first list succeeds and reading by the second, `ys`, fails, reading by both fails with the
-    -- second's fault
+    -- if reading by the first list succeeds, a fault of reading by the second, `ys`, is one of reading by both
     pub second_fails : {C : Type 0} (R : C → Type 0) (fault : LoadFault) (r : Result (Option C) LoadFault)
         → two ≡ Err fault → IsErrAnd r (λ says. says ≡ fault) → ReadsSome g old (xs ++ ys) R r new
     second_fails R fault (Ok o) was says = absurd says
@@ -389,15 +385,13 @@ module _ {S : Type 0} (g : Ghosts S) where
     leaves = first.leaves;
   }
 
-  -- in the second format: if all rows of the parts are read, each part has the rows that the format gives it
-  -- (`AreOfFormat`)
+  -- in the second format: if all rows of the parts are read, each has the rows that the format gives it (`AreOfFormat`)
   pub reads_second : {A : Type 0} (selects : List (List ℕ × List Form)) (rows : A → ReadRows) (old new : Held S) (r : Result (Option A) LoadFault)
       → ReadsSome g old selects (λ a. AreAllRows (state g old).now (rows a)) r new
       → ReadsSome g old selects (λ a. AreOfFormat Second (state g old).now (rows a)) r new
   reads_second selects rows old new r reads = reads_as selects _ _ old new r (λ a are. record { each = λ read there. inl (every_part read.0, are read there) }) reads
 
-  -- if reading by `selects` fails, so does a read by the same SELECTs, with the same fault, that is to find something
-  -- else (`Q`)
+  -- a fault of reading by `selects` is also one of reading by them to find something else (`Q`)
   pub fails_as : {A B : Type 0} (selects : List (List ℕ × List Form)) (P : A → Type 0) (Q : B → Type 0) (old new : Held S) (fault : LoadFault) (one : Result (Option A) LoadFault) (r : Result (Option B) LoadFault)
       → ReadsSome g old selects P one new → one ≡ Err fault → IsErrAnd r (λ says. says ≡ fault) → ReadsSome g old selects Q r new
   fails_as selects P Q old new fault one (Ok o) first was says = absurd says

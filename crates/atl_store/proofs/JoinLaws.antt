@@ -51,8 +51,7 @@ others_booked books e t n f u far =
 
 -- ---- how the campaign after a joining differs
 
--- The campaign `after` is that after a join: `before` with this faction, unit and report, and with money and people
--- booked.
+-- The campaign `after` is `before` with this faction, unit and report, and with money and people booked.
 record IsArrival (n : ℕ) (f : Faction) (m : ℕ) (u : Unit) (report : List ℕ) (before after : CampaignValue) : Type 0 where
   factions : after.factions ≡ insert before.factions n f
   units : after.units ≡ insert before.units m u

@@ -89,8 +89,7 @@ entries_apart {V} (e ∷ es) sorted = (
   entries_apart es (and_parts _ _ sorted).1,
 )
 
--- the rows that `line` makes of a map's numbers and values have different integers in column 0, if it puts the number
--- there
+-- the rows that `line` makes of a map's numbers and values have different integers in column 0, if the number is there
 pub lines_keys : {V : Type 0} (line : ℕ → V → Row) → ((n : ℕ) (v : V) → column (line n v) 0 ≡ Int (pos n))
     → (m : FinMap nat_cmp V) → HaveDistinctIntegers 0 (rows_in_order line (entries m))
 lines_keys {V} line numbered m = numbers_keys (λ (e : ℕ × V). line e.0 e.1) (λ (e : ℕ × V). pos e.0) 0 (λ e. numbered e.0 e.1) (entries m) (entries_apart (entries m) (in_order m))
@@ -118,8 +117,7 @@ row_place : (part : Part) (r : Row) → column (placed_row part r) (column_count
 row_place Own r = refl
 row_place part r = refl
 
--- The rows that a part's SELECT shows (its listing) are all rows with their rowids or, where the first column is the
--- rowid, without them.
+-- The rows that a part's SELECT shows are all rows with their rowids or, where the first column is the rowid, without.
 shown_by : (part : Part)
     → ((shows_rowids part ≡ true) × ((db : Trees) → (select_of_part part).in_table db ≡ map (placed_row part) (db (table_of part).tree)))
     ⊎ ((shows_rowids part ≡ false) × ((db : Trees) → (select_of_part part).in_table db ≡ rows_in (table_of part) db) × ((r : Row) → column (visible_row (table_of part) r) 0 ≡ rowid r))

@@ -69,8 +69,7 @@ keyed_shown f at tree shown is same keyed = record {
   ints = all-permutation _ (map f tree) shown same (mapped_all f _ _ tree (λ r h. ap is_int (is r) ∙ h) keyed.ints);
 }
 
--- if the rowids that a SELECT of a tree's rows shows in the column `at` are different integers, so are those of the
--- tree
+-- if the rowids that a SELECT of a tree's rows shows in the column `at` are different integers, so are the tree's
 pub keyed_by : (f : Row → Row) (at : ℕ) (tree shown : List Row) → ((r : Row) → column (f r) at ≡ rowid r)
     → IsPermutation (map f tree) shown → HaveDistinctIntegers at shown → AreKeyedByRowid tree
 keyed_by f at tree shown is same have =

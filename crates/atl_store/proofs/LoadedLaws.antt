@@ -88,7 +88,6 @@ since_first : (part : Part) → Has (parts_in First) part → (select_of_part pa
 since_first part there = all_has (λ p. (select_of_part p).since ≡ First) (parts_in First) part (refl, (refl, (refl, (refl, (refl, (refl, (refl, (refl, (refl, tt))))))))) there
 
 -- a schema with a format's tables has, for each part of it, the tables of the earliest format that has the part
--- (`since`)
 has_since : (f : Format) (schema : Schema) → HasTablesOf f schema → (part : Part) → Has (parts_in f) part
     → HasTablesOf (select_of_part part).since schema
 has_since First schema has part there = subst (λ since. HasTablesOf since schema) (sym (since_first part there)) has
@@ -202,8 +201,7 @@ module _ (f : Format) {S : Type 0} (g : Ghosts S) where
 
   -- ---- what else refuses the load after the first rule holds
 
-  -- outside a transaction, if the campaign row keeps the first rule, a fault of reading the other tables refuses the
-  -- load
+  -- outside a transaction, if the campaign row keeps the first rule, a fault of reading other tables refuses the load
   pub unread_refuses : (old mid : Held S) → old.in_transaction ≡ false → KeepsOneRow f g old → AfterReads g old mid
       → (fault : LoadFault) → FailsToRead g mid (other_selects f) fault → RefusesToLoadIn f g old fault
   unread_refuses old mid idle kept first fault fails = refused fault (fails_then g old mid first (other_selects f) fault fails)
@@ -235,8 +233,7 @@ module _ (f : Format) {S : Type 0} (g : Ghosts S) where
       | inr shut ↦ inr (inl (shut_failed shut))
     ]
 
-    -- outside a transaction, if all values are of their columns' forms, a fault of testing the schema
-    -- (`FailsToConfirm`) refuses the load
+    -- outside a transaction, if all values are of their columns' forms, a fault of testing the schema refuses the load
     pub unconfirmed_refuses : old.in_transaction ≡ false → AllSelectsShowTyped g old (other_selects f)
         → (fault : LoadFault) → FailsToConfirm g mid f fault → RefusesToLoadIn f g old fault
     unconfirmed_refuses idle typed Store (inl other) = inr (inr (kept, inr (typed, other_schema other)))

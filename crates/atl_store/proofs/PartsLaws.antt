@@ -290,8 +290,7 @@ no_markets First p none = nothing p.markets (none [] Markets (not_among (parts_i
     nothing (row ∷ rows) is = absurd (let k = is in cc)
 no_markets Second p none = refl
 
--- rows with just one campaign row, of id 1 and this format, and none of parts that the format lacks, keep the first
--- rule
+-- rows with one campaign row alone, of id 1 and this format, and none of parts that it lacks, keep the first rule
 pub keeps_one_row : (f : Format) (w : WorldValue) (p : Parts) (h : StoredCampaignRow) → h.id ≡ pos 1
     → h.format ≡ pos (format_number f) → p.campaign ≡ h ∷ []
     → ((text : List ℕ) (part : Part) → ¬ Has (parts_in f) part → rows_read text p part ≡ []) → KeepsRule f w p OneRow

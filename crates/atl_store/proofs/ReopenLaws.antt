@@ -37,8 +37,7 @@ module _ {S : Type 0} (g : Ghosts S) where
     kept_again text c holds clean =
         reopens.keeps clean text c ((holds (reopens.clean clean)).crash (state g new).now.trees (reopens.found clean))
 
-    -- after a command that failed, a connection opened again keeps the campaign before or after it, if the disk is
-    -- clean
+    -- after a command that failed, a connection opened again keeps the campaign before or after it, on a clean disk
     pub stopped_again : HasCleanDisk (state g new) → (faults : ℕ) (text : List ℕ) (before after : CampaignValue)
         → LeavesAfterFault faults (state g old) text before after
         → Keeps (state g new) text before ⊎ Keeps (state g new) text after

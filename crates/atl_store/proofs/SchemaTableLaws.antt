@@ -1,4 +1,4 @@
--- Law: the schema table of a database lists only one schema, if this has no view.
+-- Law: the schema table of a database lists only one schema, if this has no view or trigger.
 -- The schema table is the one whose rows list a database's tables, indexes and views. `db` has the trees of the
 -- database.
 use Rattle.std.proofs.Common.{◌≡◌, ℕ, ◌+◌, ◌<◌, ◌++◌, false, pos, codes, List, [], ◌∷◌, filter, slice_get, Some, refl, sym, ap, ◌∙◌, subst, arith}
@@ -107,7 +107,8 @@ no_views (r ∷ rows) none views is one two = absurd (subst (AllZip IsViewRow (r
 
 -- ---- the whole
 
--- two schemas that the trees of one database list and obey (`IsSound`) are equal, if the first, `s`, has no views
+-- two schemas that the trees of one database list and obey (`IsSound`) are equal, if the first, `s`, has no `views`: no
+-- view, no trigger, and nothing else that the database keeps as it is
 pub one_schema : (db : Trees) (s t : Schema) → IsSound s db → IsSound t db → s.views ≡ [] → t ≡ s
 one_schema db s t one two none =
     let first = one.lists.listed in

@@ -50,8 +50,8 @@ module _ (old new : State) (text : List ℕ) (settled : (db : Trees) → IsTrue 
         crash = λ db may. subst (λ t. Stores t text after) (sym (settled db done.is_open may ∙ ap (λ (d : Database). d.trees) done.committed)) (held_campaign_is_stored new.now text after did.tables rows);
       }
 
-  -- On a clean disk a failed transaction leaves the campaign that was kept, `before`. A crash leaves this one or the
-  -- one that `Does` makes the tables hold, `after` (`LeavesAfterFault`).
+  -- On a clean disk a failed transaction (`LeavesOff`, `Survives`) leaves the campaign that was kept, `before`. A crash
+  -- leaves this one or the one that `Does` makes the tables hold, `after` (`LeavesAfterFault`).
   pub leaves_stops : (Does : Database → Database → Type 0) (before after : CampaignValue) → HasCleanDisk new
       → LeavesOff old new → Survives old new (MayLeave HasTables Does old) → Keeps old text before
       → ((db : Database) → Does old.now db → Holds db.trees text after)
@@ -76,7 +76,7 @@ module _ (old new : State) (text : List ℕ) (settled : (db : Trees) → IsTrue 
   }
 
 -- if a transaction that does `Does` makes tables, which were as `Before` says, hold the campaign `c`, a crash leaves
--- what it could have left before, or `c`, on a clean disk
+-- what it could have left before, or `c`, on a clean disk; a premise is `Survives`
 pub may_found : (old new : State) (text : List ℕ) (c : CampaignValue) (Before : Database → Type 0) (Does : Database → Database → Type 0)
     → Before old.now → ((db : Database) → Does old.now db → Holds db.trees text c) → HasCleanDisk new
     → Survives old new (MayLeave Before Does old) → MayLeaveCampaign old text c new
@@ -85,8 +85,8 @@ may_found old new text c Before Does before holds clean survives db may = elim (
   | inr made ↦ let did = made.1 before in inr (subst (λ t. Stores t text c) (sym made.2) (held_campaign_is_stored made.0 text c did.tables (holds made.0 did.does)))
 ]
 
--- on a clean disk a failed transaction changes nothing, if the connection was in none before and nothing was
--- uncommitted
+-- on a clean disk a failed transaction (`LeavesOff`, `Survives`) changes nothing, if the connection was in none before
+-- and nothing was uncommitted
 pub failed_changes_nothing : (old new : State) (Commits : Trees → Type 0) → HasCleanDisk new → LeavesOff old new
     → Survives old new Commits → old.in_transaction ≡ false → (IsTrue old.is_open → old.now ≡ old.committed)
     → ChangesNothing old new
@@ -138,8 +138,7 @@ not_there g conn schema found shown is none = ap has_campaign (sym shown) ∙ sy
 pub unchanged_itself : (s : State) → ChangesNothing s s
 unchanged_itself s = record { same = λ up. (refl, refl, refl); shuts = λ up. inl up }
 
--- after a call (`Survives`) a clean disk was clean before, no failure is forgotten, and reads tested by digests stay so
--- (`IsLater`)
+-- after a call a clean disk was clean before, no failure is forgotten, and reads tested by digests stay so (`IsLater`)
 pub survives_is_later : (old new : State) (Commits : Trees → Type 0) → Survives old new Commits → IsLater old new
 survives_is_later old new Commits survives =
     record { clean = λ clean. omega (arith, survives.clean); counts = survives.counts; shield = survives.shield }
@@ -149,7 +148,7 @@ pub commit_leaves_others : (old new : State) (Before : Database → Type 0) (Doe
     → Commits Before Does old new → (HasTables old.now → Before old.now) → LeavesOthersAlone old new
 commit_leaves_others old new Before Does done before up has settled = (done.does (before has)).carries
 
--- a failed transaction leaves other tables alone
+-- a failed transaction (`LeavesOff`) leaves other tables alone
 pub leaves_others : (old new : State) → LeavesOff old new → LeavesOthersAlone old new
 leaves_others old new off up has settled =
     subst (Carries old.now) (sym ((off.undone up).0 ∙ settled)) (carries_none old.now)

@@ -58,8 +58,7 @@ module _ {S : Type 0} (g : Ghosts S) (text : List ℕ) (old mid : Held S) (alone
   bare_before : (w : WorldValue) (c : MarkedCampaign) → LoadsIn First g old mid w c → without_markets w ≡ w
   bare_before w c loads = old_has_no_markets (world_text (state g mid)) w (loads.world clean)
 
-  -- the tables hold the loaded campaign in the first format, and the new text differs in markets alone
-  -- (`MatchesNewText`)
+  -- the tables hold the loaded campaign in the first format; the new text differs in markets alone (`MatchesNewText`)
   pub matched : (w : WorldValue) (c : MarkedCampaign) → IsReadyToUpgrade g text old mid w c
       → MatchesNewText (state g old) text w c.value
   matched w c ready = record {
@@ -128,7 +127,7 @@ module _ {S : Type 0} (g : Ghosts S) (text : List ℕ) (old new : Held S) where
   fails_to_read world.NoLand reads was = (was, reads, λ e. absurd cc)
   fails_to_read world.Memory reads was = inr was
 
-  -- an upgrade is refused with the fault of a failed check; nothing is changed
+  -- an upgrade is refused with the fault of a failed check, if the checks changed nothing (`LeavesAlone`)
   pub refused_before : (fault : UpgradeFault) → (HasCleanDisk (state g new) → FailsCheck g text old new fault)
       → LeavesAlone g old new → RefusesToUpgrade g text old new fault
   refused_before fault fails alone = record {
@@ -158,7 +157,8 @@ module _ {S : Type 0} (g : Ghosts S) (text : List ℕ) (old mid new : Held S) (w
   clean_before survives clean = omega (arith, survives.clean, clean)
 
   -- After the commit the connection keeps the loaded campaign with the new text, good and unmarked (`Upgrades`), if the
-  -- schema was that of the first format alone. A premise is that a crash leaves the last commit (`settled`).
+  -- schema was that of the first format alone. Premises: a crash leaves the last commit (`settled`), no failure is
+  -- forgotten (`Survives`), and no transaction is open.
   pub upgrades : (settled : (db : Trees) → IsTrue (state g new).is_open → (state g new).may_leave db → db ≡ (state g new).committed.trees)
       → IsFirstFormatOnly mid.schema
       → (HasCleanDisk (state g new) → Commits IsFirstFormat (WritesUpgrade text c.value) (state g mid) (state g new))

@@ -33,8 +33,7 @@ text_held f s text c holds = text_in_rows (rows_in campaign_table s.now.trees) h
 pub world_text_is : (s : State) (text : List ℕ) (c : CampaignValue) → Keeps s text c → world_text s ≡ text
 world_text_is s text c keeps = text_held Second s text c (keeps.rows.rows Own)
 
--- the text in the tables of a connection that keeps a campaign in one of the formats with a text (`KeepsIn`) is this
--- text
+-- the text in the tables of a connection that keeps a campaign in a format with a text (`KeepsIn`) is this text
 pub kept_text_is : (f : Format) (s : State) (text : List ℕ) (c : CampaignValue) → KeepsIn f s text c
     → world_text s ≡ text
 kept_text_is f s text c keeps = text_held f s text c (keeps.rows.rows Own (has_own f))

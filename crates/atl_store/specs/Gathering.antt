@@ -190,7 +190,7 @@ module _ {S : Type 0} (g : Ghosts S) (old : Held S) where
     pub one : Has selects select
     -- the connection after the reads that came before this SELECT
     pub before : Held S
-    -- the reads before this SELECT left the tables as they were
+    -- on a clean disk the reads before this SELECT left the tables as they were
     pub leaves : AfterReads g old before
     -- the rows that this SELECT shows
     pub rows : List Row
@@ -216,7 +216,7 @@ module _ {S : Type 0} (g : Ghosts S) (old : Held S) where
     pub found : HasCleanDisk (state g new) → IfOk result (FoundBySelects selects P)
     -- if the reads fail, and the disk is clean, the fault is one that they may return (`FailsToRead`)
     pub fails : HasCleanDisk (state g new) → IfErr result (FailsToRead selects)
-    -- the reads leave the tables as they were
+    -- on a clean disk the reads leave the tables as they were, and in any case the connection is in no transaction
     pub leaves : AfterReads g old new
 
   -- ---- the schema
@@ -294,7 +294,7 @@ pub record GathersAll (f : Format) {S : Type 0} (g : Ghosts S) (old : Held S) (w
       → AreKeyedByRowid ((state g old).now.trees table.tree)
 
 -- The tables of the file are those of the format. The schema of `old`, the state before the reads, begins with the
--- format's tables and their indexes, and has no views; what follows puts no rule on these tables (`HasTablesOf`). The
+-- format's tables and their indexes, and has no `views`; what follows puts no rule on these tables (`HasTablesOf`). The
 -- trees of `old` list this schema and obey it (`IsSound`). After the reads the connection is open (`new`).
 pub record IsConfirmed (f : Format) (old new : State) : Type 0 where
   pub begins : HasTablesOf f old.now.schema

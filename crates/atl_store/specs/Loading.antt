@@ -145,14 +145,12 @@ pub record TablesStay (old new : State) : Type 0 where
   pub same : IsTrue new.is_open → (new.now ≡ old.now) × (new.committed ≡ old.committed)
 
 -- The connection after reads: it is in no transaction, and its tables are as they were, if the disk is clean
--- (`TablesStay`). What `Survives` says holds too, with nothing committed: a crash leaves only what it could have left
--- before.
+-- (`TablesStay`). A crash then leaves only what it could have left before (`Survives`).
 pub record AfterReads {S : Type 0} (g : Ghosts S) (old new : Held S) : Type 0 where
   -- after the reads the tables are as they were before, if the disk is clean
   pub stays : HasCleanDisk (state g new) → TablesStay (state g old) (state g new)
-  -- A disk that isn't clean stays so, no failure is forgotten, reads tested by digests stay so, and so does the limit
-  -- on a query's steps. If the disk is clean, only a failure closes the connection, and a crash leaves only what it
-  -- could have left before (`Survives`).
+  -- On a clean disk a crash leaves only what it could have left before, and only a failure closes the connection.
+  -- An unclean disk stays so, no failure is forgotten; tests of reads by digests and a step limit stay (`Survives`).
   pub survives : Survives (state g old) (state g new) (λ _. ⊥)
   -- after the reads the connection is in no transaction
   pub idle : new.in_transaction ≡ false
@@ -180,8 +178,7 @@ module _ {S : Type 0} (g : Ghosts S) (old : Held S) where
         (select : List ℕ × List Form) → Has selects select
         → (rows : List Row) × SelectShows select.0 rows × AreTyped select.1 rows
 
-    -- each SELECT of the list `selects` shows some rows, and in those of one of them a value is of another form than
-    -- its column
+    -- each SELECT of the list `selects` shows some rows, and in those of one a value is of another form than its column
     pub record HasOtherType : Type 0 where
       -- each SELECT of the list `selects` shows some rows
       pub all : AllSelectsShow
@@ -204,7 +201,7 @@ module _ {S : Type 0} (g : Ghosts S) (old : Held S) where
       pub one : Has selects select
       -- the connection after the reads that came before this SELECT
       pub before : Held S
-      -- the reads before this SELECT left the tables as they were
+      -- on a clean disk the reads before this SELECT left the tables as they were
       pub leaves : AfterReads g old before
       -- this SELECT is refused with the fault `fault`
       pub refused : RefusesToSelect g select.0 before fault
@@ -225,7 +222,7 @@ module _ {S : Type 0} (g : Ghosts S) (old : Held S) where
   pub record RefusesAgain (memory : Bool) : Type 0 where
     -- the connection after the other reads, before the books are asked for again
     pub before : Held S
-    -- the other reads left the tables as they were
+    -- on a clean disk the other reads left the tables as they were
     pub leaves : AfterReads g old before
     -- the connection once the SELECT of the books is refused
     pub during : Held S
@@ -275,6 +272,7 @@ module _ (f : Format) {S : Type 0} (g : Ghosts S) (old : Held S) where
 
   -- The SELECT of `campaign` shows one row, which keeps the first rule (`AreOwnRow`).
   pub record KeepsOneRow : Type 0 where
+    -- the rows that the SELECT of `campaign` shows
     pub rows : List Row
     pub selects : Selects g (selection campaign_table 1) old rows
     -- the campaign row, without its world text
@@ -288,6 +286,7 @@ module _ (f : Format) {S : Type 0} (g : Ghosts S) (old : Held S) where
 
   -- The SELECT of `campaign` shows rows that break the first rule and aren't one row of the other format.
   pub record BreaksOneRow : Type 0 where
+    -- the rows that the SELECT of `campaign` shows
     pub rows : List Row
     pub selects : Selects g (selection campaign_table 1) old rows
     -- the rows that the SELECT of `campaign` shows break the first rule
@@ -404,8 +403,7 @@ module _ {S : Type 0} (g : Ghosts S) (old : Held S) where
   pub record LeavesAlone (new : Held S) : Type 0 where
     -- nothing of the connection is changed, if the disk is clean
     pub unchanged : HasCleanDisk (state g new) → ChangesNothing (state g old) (state g new)
-    -- A disk that isn't clean stays so, no failure is forgotten, reads tested by digests stay so, and so does the limit
-    -- on a query's steps. If the disk is clean, only a failure closes the connection, and a crash leaves only what it
-    -- could have left before (`Survives`).
+    -- On a clean disk a crash leaves only what it could have left before, and only a failure closes the connection.
+    -- An unclean disk stays so, no failure is forgotten; tests of reads by digests and a step limit stay (`Survives`).
     pub survives : Survives (state g old) (state g new) (λ _. ⊥)
     pub mode : new.in_transaction ≡ old.in_transaction

@@ -83,8 +83,7 @@ module _ {S : Type 0} (g : Ghosts S) (text : List ℕ) (old new : Held S) where
     -- a statement of the upgrade, or its commit, gave the error
     pub given : Gives g (OfUpgrade text campaign) error before new
 
-  -- the campaign matches the new text (`MatchesNewText`), but there are more tables or indexes than those of the first
-  -- format
+  -- the campaign matches the new text (`MatchesNewText`), but the schema has more than what the first format has
   pub record HasMoreTables : Type 0 where
     -- the world of the new text
     pub world : WorldValue
@@ -141,7 +140,6 @@ module _ {S : Type 0} (g : Ghosts S) (text : List ℕ) (old new : Held S) where
     -- if the disk is clean, a check failed and nothing is changed, or the transaction broke off with this fault
     pub cause : HasCleanDisk (state g new) → (FailsCheck fault × LeavesAlone g old new) ⊎ FailsInTransaction fault
     -- if the disk is clean, nothing is changed: while the connection is open the tables are as they were
-    -- (`ChangesNothing`)
     pub unchanged : HasCleanDisk (state g new) → ChangesNothing (state g old) (state g new)
     -- if the disk is clean, a crash leaves what it could have left before, or the upgraded campaign
     pub crash : HasCleanDisk (state g new) → MayUpgrade (state g old) text (state g new)

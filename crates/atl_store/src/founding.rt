@@ -28,6 +28,8 @@ fn is_blank(schema: &Schema) -> bool
         && schema.views.as_slice().is_empty()
 }
 
+/// Whether the schema has nothing and the connection is in no transaction; then, while it is open,
+/// all is committed.
 fn is_ready<S: Alter>(conn: &Connection<S>) -> bool
     ensures ready { IsTrue result ↔ (IsReadyToCreate (state S.Store conn.now)) }
     ensures settled { IsTrue result → IsTrue (state S.Store conn.now).is_open
@@ -40,7 +42,7 @@ fn is_ready<S: Alter>(conn: &Connection<S>) -> bool
 /// books may have no more things than a world can have. With Ok the connection holds the campaign,
 /// of which nothing is marked any more, and no table `campaign` was there. NotEmpty: a table
 /// `campaign` is there, and nothing is changed. Store: the connection is in a transaction or the
-/// database has other tables, an index or a view, and nothing is changed; or the database gives an
+/// database has other tables, an index, a view or a trigger, and nothing is changed; or it gives an
 /// error that is not lack of memory. Memory: the database says that it has none. After Store and
 /// Memory the tables are as they were while the connection is open, and a crash leaves what it left
 /// before or the campaign. After any fault the marks are as they were. What the tables hold, and

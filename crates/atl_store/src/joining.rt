@@ -1,4 +1,6 @@
-//! Writes the rows of a faction's joining into the tables. See docs/RULES.md, "Joining".
+//! Writes the rows of a faction's joining into the tables. See docs/RULES.md, "Joining". A step
+//! does so on a clean disk, if there are a campaign's tables (`HasTables`) and `arrival` is what
+//! joined `campaign` (`HasArrivalWith`). Err has the error of a statement.
 ghost use Rattle.std.specs.Prelude.{◌≡◌, [], false, List, ℕ, IfErr, OnOk, OnErr};
 ghost use Rattle.sqlite.specs.Held.{state};
 ghost use Rattle.sqlite.specs.State.{HasCleanDisk};
@@ -34,6 +36,7 @@ struct Arrival<'a> {
     report: &'a Text,
 }
 
+/// The faction `number` with its report, and the unit numbered last; the campaign has to have them.
 fn arrival_of(campaign: &Campaign, number: u32) -> Arrival<'_>
     requires { HasArrival campaign.now.value number }
     ensures found { HasArrivalWith campaign.now.value result.number result.faction.now
@@ -72,6 +75,7 @@ fn put_newcomer<S: Alter>(
     arrival.unit.put(tx, arrival.unit_number)
 }
 
+/// Puts the report's row, and writes the money and the people that the books have under joining.
 fn put_report_and_amounts<S: Alter>(
     tx: &mut Transaction<'_, S>,
     campaign: &Campaign,

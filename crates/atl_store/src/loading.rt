@@ -22,7 +22,8 @@ use sqlite::{Alter, Connection};
 use std::alloc::Global;
 
 /// Reads the rows of all tables of the format, and the world. A value of another type than its
-/// column, in another table than `campaign`, gives Damaged by the second rule, `Ranges`.
+/// column, in another table than `campaign`, gives Damaged by the second rule, `Ranges`. All is
+/// committed before, `conn` is in no transaction, and what is read is promised on a clean disk.
 fn gather<S: Alter>(
     alloc: Global,
     conn: &mut Connection<S>,
@@ -44,6 +45,8 @@ fn gather<S: Alter>(
     Ok((world, parts))
 }
 
+/// Reads all rows, confirms the schema, and checks the rows by the rules. All is committed before,
+/// and `conn` is in no transaction. What is read, and the fault, are promised on a clean disk.
 fn load_idle<S: Alter>(
     alloc: Global,
     conn: &mut Connection<S>,
@@ -62,8 +65,9 @@ fn load_idle<S: Alter>(
     Ok((world, campaign))
 }
 
-/// Loads the campaign from tables of this format, as `load` does from those of the second; the
-/// fault for one campaign row of the other format is OtherFormat here.
+/// Loads the campaign from tables of this format; it is good, and nothing of it is marked. Nothing
+/// is changed. The faults come as those of `load`, but with OtherFormat for one campaign row of the
+/// other format. All but that the campaign is good and unmarked is promised on a clean disk.
 pub(crate) fn load_as<S: Alter>(
     alloc: Global,
     conn: &mut Connection<S>,

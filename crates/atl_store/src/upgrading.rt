@@ -16,6 +16,7 @@ use atl_writing::write_upgrade;
 use sqlite::{Alter, Connection};
 use std::alloc::Global;
 
+/// Loads the campaign in the first format, and reads the new world, which differs in markets alone.
 fn world_and_campaign<S: Alter>(
     alloc: Global,
     conn: &mut Connection<S>,

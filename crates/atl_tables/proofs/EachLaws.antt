@@ -11,7 +11,8 @@ use Rattle.atl_tables.proofs.FaultLaws.{fault_is_of_second_list, error_of_first_
 
 -- `conditions` gives the conditions on an element of a list and its index
 module _ {A : Type 0} (conditions : ℕ → A → Conditions) where
-  -- x is the element at index i, `xs` are the elements after it, and `total` is the first fault of all of them
+  -- x is the element at index i, `xs` are those after it, and `total` is the first fault of all. If x has no fault,
+  -- `total` is that of xs. An error that a call may return by the conditions on x (`IsFaultOrMemory`), it may by all.
   module _ (i : ℕ) (x : A) (xs : List A) (total : Option WorldFault) (so_far : first_fault (conditions_on_each conditions i (x ∷ xs)) ≡ total) where
     pub rest_has_same_fault : first_fault (conditions i x) ≡ None
         → first_fault (conditions_on_each conditions (i + 1) xs) ≡ total
@@ -24,7 +25,7 @@ module _ {A : Type 0} (conditions : ℕ → A → Conditions) where
         subst (IsFaultOrMemory e) so_far
         (error_of_first_list_is_of_joined e (conditions i x) (conditions_on_each conditions (i + 1) xs) one)
 
-  -- in a loop over the indices of a list: x is the i-th element, and `total`, the first fault of all, is that from x on
+  -- the same in a loop over the indices of a list, xs: x is its i-th element, and `total` the first fault from x on
   module _ (xs : List A) (i : ℕ) (x : A) (total : Option WorldFault) (below : i < length xs) (here : x ≡ get_or xs i x) (so_far : first_fault (conditions_on_each conditions i (drop i xs)) ≡ total) where
     fault_from_index_is_of_all : first_fault (conditions_on_each conditions i (x ∷ drop (i + 1) xs)) ≡ total
     fault_from_index_is_of_all =

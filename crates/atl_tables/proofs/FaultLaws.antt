@@ -27,11 +27,13 @@ fault_is_of_first_list f [] gs h = absurd (cc)
 fault_is_of_first_list f (None ∷ fs) gs h = fault_is_of_first_list f fs gs h
 fault_is_of_first_list f (Some x ∷ fs) gs h = h
 
+-- an error that a call may return by the conditions fs (`IsFaultOrMemory`), it may return by fs and gs
 pub error_of_first_list_is_of_joined : (e : WorldFault) (fs gs : Conditions) → IsFaultOrMemory e (first_fault fs)
     → IsFaultOrMemory e (first_fault (fs ++ gs))
 error_of_first_list_is_of_joined Memory fs gs h = tt
 error_of_first_list_is_of_joined e fs gs h = fault_is_of_first_list e fs gs h
 
+-- where fs have no fault, an error that a call may return by gs, it may return by fs and gs
 pub error_of_second_list_is_of_joined : (e : WorldFault) (fs gs : Conditions) → first_fault fs ≡ None
     → IsFaultOrMemory e (first_fault gs) → IsFaultOrMemory e (first_fault (fs ++ gs))
 error_of_second_list_is_of_joined e fs gs h s = subst (IsFaultOrMemory e) (sym (fault_is_of_second_list fs gs h)) s
@@ -53,11 +55,13 @@ gives_implies_reads view (Ok x) fault v h = rw (h.0, h.1) refl
 gives_implies_reads view (Err Memory) fault v h = tt
 gives_implies_reads view (Err e) fault v h = rw h refl
 
+-- an error that a call may return by one condition, it may return by all conditions that begin with it
 pub error_of_condition_is_of_list : (e : WorldFault) (fault : Option WorldFault) (fs : Conditions)
     → IsFaultOrMemory e fault → IsFaultOrMemory e (first_fault (fault ∷ fs))
 error_of_condition_is_of_list Memory fault fs h = tt
 error_of_condition_is_of_list e fault fs h = rw h refl
 
+-- a result by one condition (`Gives`) is one by the list of this condition alone
 pub result_by_condition_is_by_list : {X Y : Type 0} (view : X → Y) (r : Result X WorldFault) (fault : Option WorldFault) (v : Y)
     → Gives view r fault v → Gives view r (first_fault (fault ∷ [])) v
 result_by_condition_is_by_list view r None v h = h

@@ -33,6 +33,7 @@ entries_in_order (e ∷ es) h = rw (entries_in_order es h.1) (put_first e.0 (vie
 
 -- e is the next entry of the output at the path `at`, n is its amount, and `es` are the entries after it
 module _ (at : List ℕ) (e : List ℕ × Data) (es : List (List ℕ × Data)) (n : ℕ) (one : amount_at at e ≡ Ok n) where
+  -- since the amount of e has no fault, the first fault of e and the entries after it is that of these
   pub later_amounts_have_same_fault : (total : Option WorldFault) → first_fault (amounts_keys at (e ∷ es)) ≡ total
       → first_fault (amounts_keys at es) ≡ total
   later_amounts_have_same_fault total so_far =

@@ -20,8 +20,7 @@ choice_is_or true false = refl
 choice_is_or false true = refl
 choice_is_or false false = refl
 
--- after a name is put, in lower case, into a set of names, the set has exactly this name and those that it had before,
--- ignoring ASCII case
+-- once a name is put, in lower case, into a set, the set has just this name and those that it had, ignoring ASCII case
 pub has_more : {Z : Type 0} (seen grown : BTreeSet (String Z)) (lowered : String Z) (name : List ℕ)
     → Updates string_cmp seen grown lowered true → string_bytes lowered ≡ map to_ascii_lowercase name
     → (other : List ℕ) → has_name grown other ≡ (has_name seen other || same_name name other)

@@ -83,8 +83,7 @@ pub record IsItemDraft (d : ItemDraft) : Type 0 where
   pub carry : d.carry ≤ most_weight
   pub making : IsRecipe d.making
 
--- the size of a structure of any kind, ships too, and the level of the skill that building it takes, are in their
--- ranges
+-- the size of a structure, ships too, and the level of the skill that building it takes, are in their ranges
 pub record AreBuildingNeeds (b : BuildingNeeds) : Type 0 where
   pub size_least : 1 ≤ b.size
   pub size : b.size ≤ most_size

@@ -1,6 +1,6 @@
 -- A table `[[item]]` of the world file: its keys in order, with their ranges, and the item that they give.
 -- See docs/FORMATS.md, "The world file". A key with a fault gives a default value (`one_key`).
--- `all` has all tables of the file as read, and d is the i-th table `[[item]]`.
+-- `all` has all tables of the file as read, and d is the i-th table `[[item]]`. The rule of names is `name_ok`.
 use Rattle.std.specs.Prelude.{ℕ, ◌==◌, if◌then◌else◌, List, [], ◌∷◌, codes, Option, Some, None, option_and_then}
 use Rattle.toml.specs.Data.{Members}
 use Rattle.atl_tables.specs.Faults.{Conditions}
@@ -23,7 +23,7 @@ making_at = do
   raw_count ← number_or_key 1 1 most_raw_count (codes "raw_count")
   value_only (record { skill = skill; level = level; raw = raw; raw_count = raw_count })
 
--- reads all keys of a table `[[item]]`, in order: name, weight, what it carries, and what making one takes
+-- reads all keys of a table `[[item]]`, in order: name, weight, what it carries, what making takes (as one condition)
 unfoldable pub item_at : TableReader ItemDraft
 item_at = do
   name ← name_key (codes "name")

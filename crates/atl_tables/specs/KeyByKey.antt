@@ -5,8 +5,7 @@ use Rattle.toml.specs.Data.{Members}
 use Rattle.atl_tables.specs.Faults.{Conditions, fault_of, first_fault, value_or}
 use Rattle.atl_tables.specs.Keys.{KeyReader, number_at, name_at, text_at, flag_at, number_or_at, optional_text_at}
 
--- what reading a table gives: the conditions on its keys in order, and its value, with a default where a key has a
--- fault
+-- what reading a table gives: the conditions on its keys in order, and its value, with a default for each faulty key
 pub record TableReading (A : Type 0) : Type 0 where
   pub conditions : Conditions
   pub value : A

@@ -100,13 +100,11 @@ unfoldable pub optional_number_at : ℕ → ℕ → List ℕ → List ℕ → Me
 optional_number_at least most key at t =
     optional_value (λ d. integer_in_range (path at key) least most (as_integer d)) (get_member key t)
 
--- `optional_text_at key at t` is the text under a key of the table t at a path, None if the key is missing; else the
--- fault WrongType
+-- `optional_text_at key at t` is the text under a key of the table t at a path, None without the key; else WrongType
 unfoldable pub optional_text_at : List ℕ → List ℕ → Members → Result (Option (List ℕ)) WorldFault
 optional_text_at key at t = optional_value (λ d. value_or_wrong_type (path at key) (as_str d)) (get_member key t)
 
--- `optional_table_at key at t` is the table under a key of the table t at a path, empty if the key is missing; else the
--- fault WrongType
+-- `optional_table_at key at t` is the table under a key of the table t at a path, empty without the key; else WrongType
 unfoldable pub optional_table_at : List ℕ → List ℕ → Members → Result Members WorldFault
 optional_table_at key at t = value_or_default no_members (λ d. value_or_wrong_type (path at key) (as_table d)) (get_member key t)
 

@@ -1,6 +1,6 @@
 -- A table `[[kind]]` of the world file: its keys in order, with their ranges, and the kind that they give.
 -- See docs/FORMATS.md, "The world file". A key with a fault gives a default value (`one_key`).
--- `all` has all tables of the file as read, and d is the i-th table `[[kind]]`.
+-- `all` has all tables of the file as read, and d is the i-th table `[[kind]]`. The rule of names is `name_ok`.
 use Rattle.std.specs.Prelude.{ℕ, List, [], ◌∷◌, codes, unwrap_or, option_and_then}
 use Rattle.toml.specs.Data.{Members}
 use Rattle.atl_tables.specs.Faults.{Conditions}
@@ -32,7 +32,8 @@ purpose_at = do
   helps ← optional_text_key (codes "helps")
   value_only (record { capacity = capacity; crew = crew; helps = helps })
 
--- reads all keys of a table `[[kind]]`, in order: name, whether it is a ship, what building takes, what it is good for
+-- reads all keys of a table `[[kind]]`, in order: name, whether it is a ship, what building takes (as one condition),
+-- and what it is good for (as another)
 unfoldable pub kind_at : TableReader KindDraft
 kind_at = do
   name ← name_key (codes "name")

@@ -28,8 +28,7 @@ pays_at = number_at 1 most_price (codes "pays")
 abbrev pub limit_at : KeyReader ℕ
 limit_at = number_at 0 most_amount (codes "limit")
 
--- reads the key `restock` of a table `[[region.market]]`, from 0 to most_amount: what comes into the market's stock in
--- a month
+-- reads the key `restock` of a table `[[region.market]]`, from 0 to most_amount: what the stock gains in a month
 abbrev pub restock_at : KeyReader ℕ
 restock_at = number_at 0 most_amount (codes "restock")
 
@@ -44,8 +43,7 @@ market_keys at t =
     ∷ fault_of (restock_at at t)
     ∷ []
 
--- the market that the table `[[region.market]]` at a path gives, with its item by name; the path is kept as
--- `table_path`
+-- the market that the table `[[region.market]]` at a path gives, with its item by name; `table_path` keeps the path
 unfoldable pub market_from : List ℕ → Members → MarketDraft
 market_from at t = record {
   table_path = at;

@@ -28,8 +28,7 @@ unfoldable pub in_byte_order : Members → List (List ℕ × Data)
 in_byte_order no_members = []
 in_byte_order (member key d ms) = put_key key d (in_byte_order ms)
 
--- the amount under a key, from 0 to most_amount, of the table `output` at a path; else the fault WrongType or
--- OutOfRange
+-- the amount under a key of the table `output` at a path, from 0 to most_amount; else the fault WrongType or OutOfRange
 abbrev pub amount_at : List ℕ → List ℕ × Data → Result ℕ WorldFault
 amount_at at (key, d) = integer_in_range (path at key) 0 most_amount (as_integer d)
 
@@ -49,7 +48,7 @@ output_path at = path at (codes "output")
 abbrev pub output_table : List ℕ → Members → Members
 output_table at t = value_or no_members (optional_table_at (codes "output") at t)
 
--- reads the table `output` of a terrain, if it is there: in byte order of the keys, amounts from 0 to most_amount
+-- reads the table `output` of a terrain, empty if missing, in byte order of its keys; amounts are from 0 to most_amount
 unfoldable pub output_at : TableReader (List Output)
 output_at = λ at t. record {
   conditions = fault_of (optional_table_at (codes "output") at t)
@@ -57,8 +56,7 @@ output_at = λ at t. record {
   value = amounts_from (output_path at) (in_byte_order (output_table at t));
 }
 
--- the condition that no key of the output at a path, before the i-th, is equal to the i-th, ignoring ASCII case; else
--- the fault TwoNames
+-- the condition that no key of the output at a path before the i-th equals the i-th, ignoring ASCII case; else TwoNames
 unfoldable pub duplicate_key_at : List ℕ → List Output → ℕ → Output → Conditions
 duplicate_key_at at all i o =
     (if list_any (λ p. same_name p.item o.item) (take i all) then Some (TwoNames (path at o.item)) else None) ∷ []

@@ -1,5 +1,5 @@
 -- For proofs alone: the parts of a world (rules, terrains, items, kinds, regions) as they are read from its file, and
--- their ranges. Regions are still a list, in the order of the file.
+-- their ranges. Regions are still a list, in the order of the file. The rule of names is `name_ok`.
 use Rattle.std.specs.Prelude.{map, length}
 use Rattle.atl_tables.specs.EachIndex.{EachIndex}
 use Rattle.atl_tables.specs.ItemTable.{item_of}

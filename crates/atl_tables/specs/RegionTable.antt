@@ -1,5 +1,5 @@
 -- A table `[[region]]` of the world file: its keys in order, with their ranges, and the region that they give.
--- See docs/FORMATS.md, "The world file". A key with a fault gives a default value (`value_or`).
+-- See docs/FORMATS.md, "The world file". A faulty key gives a default value (`value_or`). The rule of names: `name_ok`.
 -- t has the members of the table at the path `at`. `all` has all tables of the file as read, and d is the i-th region.
 use Rattle.std.specs.Prelude.{ℕ, List, [], ◌∷◌, codes, Option, None, unwrap_or}
 use Rattle.toml.specs.Data.{Members}
@@ -97,13 +97,11 @@ old_region_from at t = record { basics = basics_from at t; sides = sides_from at
 abbrev pub as_draft : OldRegion → RegionDraft
 as_draft r = record { basics = r.basics; sides = r.sides; markets = [] }
 
--- the conditions on the table `[[region]]` at a path in the second format: those of the first format as one, and then
--- those on its markets
+-- the conditions on the table `[[region]]` at a path in the second format: those of the first as one, then its markets'
 unfoldable pub region_keys : List ℕ → Members → Conditions
 region_keys at t = first_fault (old_region_keys at t) ∷ markets_keys at t
 
--- the region that the table `[[region]]` at a path gives in the second format, with its terrain and its markets' items
--- by name
+-- the region that the table `[[region]]` at a path gives in the second format, with terrain and markets' items by name
 unfoldable pub region_from : List ℕ → Members → RegionDraft
 region_from at t = record { basics = basics_from at t; sides = sides_from at t; markets = markets_from at t }
 
@@ -117,8 +115,7 @@ region_known all i d =
     name_is_known (path (element_path (codes "region") i) (codes "terrain")) (terrain_number all d.basics.terrain)
     ∷ conditions_on_each (λ k m. market_known all m) 0 d.markets
 
--- the region that a table `[[region]]` describes, with its terrain and its markets' items by number, 0 for an unknown
--- name
+-- the region that a table `[[region]]` describes, with terrain and markets' items by number, 0 for an unknown name
 unfoldable pub region_of : WorldDraft → RegionDraft → RegionPlan
 region_of all d = record {
   number = d.basics.number;

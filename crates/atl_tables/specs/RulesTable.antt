@@ -48,7 +48,7 @@ skill_names_at = do
   sailing ← optional_text_key (codes "sailing")
   value_only (record { observation = observation; stealth = stealth; sailing = sailing })
 
--- reads all keys of the table `[rules]`, in order: those on prices, on peasants, on men, and the names of skills
+-- reads all keys of the table `[rules]`, in order: on prices, peasants, men and skills, each of these as one condition
 unfoldable pub rules_at : TableReader RulesDraft
 rules_at = do
   prices ← as_one_condition prices_at

@@ -1,5 +1,5 @@
 -- A table `[[skill]]` of the world file: its keys in order, with their ranges, and the skill that they give.
--- See docs/FORMATS.md, "The world file". A key with a fault gives a default value (`one_key`).
+-- See docs/FORMATS.md, "The world file". A faulty key gives a default value (`one_key`). The rule of names: `name_ok`.
 use Rattle.std.specs.Prelude.{ℕ, List, codes}
 use Rattle.toml.specs.Data.{Members}
 use Rattle.atl_tables.specs.Faults.{Conditions}

@@ -1,6 +1,6 @@
 -- A table `[[terrain]]` of the world file: its keys in order, with their ranges, and the terrain that they give.
 -- See docs/FORMATS.md, "The world file". A key with a fault gives a default value (`one_key`).
--- `all` has all tables of the file as read, and d is the i-th table `[[terrain]]`.
+-- `all` has all tables of the file as read, and d is the i-th table `[[terrain]]`. The rule of names is `name_ok`.
 use Rattle.std.specs.Prelude.{ℕ, List, codes, map}
 use Rattle.toml.specs.Data.{Members}
 use Rattle.atl_tables.specs.Each.{conditions_on_each}
@@ -14,8 +14,7 @@ use Rattle.atl_tables.specs.declared.terrain_table.Economy.{Economy}
 use Rattle.atl_tables.specs.declared.terrain_table.TerrainDraft.{TerrainDraft}
 use Rattle.atl_world.specs.declared.world.Terrain.{Terrain}
 
--- reads the keys of a table `[[terrain]]` for the wage, the work places, and the most money and peasants that a region
--- grows to
+-- reads the keys of a table `[[terrain]]` for wage, work places, and what a region's money and peasants grow to at most
 unfoldable pub economy_at : TableReader Economy
 economy_at = do
   wage ← number_key 1 most_price (codes "wage")
@@ -24,7 +23,8 @@ economy_at = do
   peasant_limit ← number_key 0 most_amount (codes "peasant_limit")
   value_only (record { wage = wage; places = places; money_limit = money_limit; peasant_limit = peasant_limit })
 
--- reads all keys of a table `[[terrain]]`, in order: name, whether it is land, wage, work places and limits, and output
+-- reads all keys of a table `[[terrain]]`, in order: name, whether it is land, wage, work places and limits (as one
+-- condition), and output (as another)
 unfoldable pub terrain_at : TableReader TerrainDraft
 terrain_at = do
   name ← name_key (codes "name")

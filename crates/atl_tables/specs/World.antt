@@ -93,8 +93,7 @@ keys_conditions format doc =
     ++ (optional_conditions doc
     ++ regions_conditions format doc))
 
--- the conditions that no two terrains, no two items, no two skills and no two kinds have the same name, ignoring ASCII
--- case; else TwoNames
+-- the conditions that names of terrains, of items, of skills, of kinds are unique, ignoring ASCII case; else TwoNames
 unfoldable pub titles_differ : WorldDraft → Conditions
 titles_differ all =
     no_duplicates (λ d. d.name) (codes "terrain") (codes "name") all.terrains

@@ -1,6 +1,6 @@
 //! Reads arrays of tables of the world file, element by element. A call that may return a fault may
 //! also return `Memory`. Where a call takes no `array`, `key` is the array's path, as `item`.
-//! See docs/FORMATS.md, "The world file".
+//! See docs/FORMATS.md, "The world file". What is read is in its ranges (`is_sound`).
 ghost use Rattle.std.specs.Prelude.{◌≡◌, ◌≤◌, ◌∷◌, ℕ, List, IfOk, Result, length};
 ghost use Rattle.std.specs.List.{All};
 ghost use Rattle.toml.specs.Data.{Members, as_array};
@@ -24,8 +24,7 @@ pub(crate) trait FromTable: Drop {
 
     // The value that a table at a path gives, if the conditions on its keys hold.
     ghost record_of: { List ℕ → Members → Self };
-    // What is true of each value that was read: its names keep the rule of names, and its numbers
-    // are in their ranges.
+    // What is true of each value as read: names keep the rule of names, and numbers their ranges.
     ghost is_sound: { Self → Type 0 };
 
     /// The value of the table at the path `at`, else the first fault of its keys.
@@ -57,6 +56,7 @@ fn one_element<E: FromTable>(
     }
 }
 
+/// The elements of the array `values` as read, in order, else the first fault of one.
 fn elements<E: FromTable>(alloc: Global, key: &str, values: &Array) -> Result<Vec<E>, WorldFault>
     ensures value { Gives (λ v. v.items) result
         (first_fault (elements_conditions E.conditions key.now 0 (array_view values.now)))

@@ -85,8 +85,7 @@ impl WorldFault {
     }
 }
 
-/// Writes the fault's number (`Memory` has none), its name, and its path if it has one, as
-/// `3 WrongType rules.growth`.
+/// Writes number (`Memory` has none), name, and path, if there is one: `3 WrongType rules.growth`.
 impl fmt::Display for WorldFault {
     fn fmt<W: fmt::Write>(&self, f: &mut fmt::Formatter<W>) -> fmt::Result {
         let name = self.name();

@@ -24,8 +24,7 @@ use toml::Table;
 /// What making one item takes, with the skill and the raw item by name.
 pub struct Recipe {
     pub skill: Option<Text>,
-    /// The level of the skill that making one takes, from 1 to `LAST_LEVEL`; 1 where the file has
-    /// none.
+    /// The level of the skill that making one takes, 1 to `LAST_LEVEL`; 1 if the file has none.
     pub level: u32,
     pub raw: Option<Text>,
     /// How many raw items one item is made of, from 1 to `MOST_RAW_COUNT`; 1 if the file has none.
@@ -129,8 +128,8 @@ fn other_item(items: &[ItemDraft], i: usize, name: &Text) -> Option<u16>
     }
 }
 
-/// The number of the raw item of the i-th item, `None` without one; else the fault UnknownName,
-/// also if the item names itself.
+/// The number of the i-th item's raw item, by its `name`; `None` without a name. The fault is
+/// UnknownName if no item has the name, or the first that has it is the i-th itself.
 fn raw_item(
     alloc: Global,
     items: &[ItemDraft],

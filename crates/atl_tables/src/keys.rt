@@ -1,6 +1,7 @@
-//! Reads the value under a key of a table, or gives a fault with the path of the key. `Memory` is
-//! possible everywhere. `at` is the path of the table; of an array, `key` is its path.
-//! See docs/FORMATS.md, "The world file".
+//! Reads the value under a key of a table, or gives a fault with the path of the key: Missing, if
+//! the key has to be there; WrongType; or OutOfRange, if a number or an array's length isn't from
+//! `least` to `most`, or a name breaks its rule. `Memory` is possible everywhere. `at` is the path
+//! of the table; of an array, `key` is its path. See docs/FORMATS.md, "The world file".
 ghost use Rattle.std.specs.Prelude.{◌≡◌, ◌≤◌, ℤ, List, option_map, IfOk, IfSome, true, length, string_bytes};
 ghost use Rattle.toml.specs.Data.{get_member, as_integer, as_str, as_array};
 ghost use Rattle.toml.specs.View.{view, table_view, array_view};

@@ -1,5 +1,5 @@
 //! Reads the tables `[[region.market]]` and looks up their items. A call that may return a fault
-//! may also return `Memory`. See docs/FORMATS.md, "The world file".
+//! may also return `Memory`. See docs/FORMATS.md, "The world file". What is read is in its ranges.
 ghost use Rattle.std.specs.Prelude.{◌≡◌, ◌≤◌, IfOk, length};
 ghost use Rattle.std.specs.List.{All};
 ghost use Rattle.toml.specs.View.{table_view};

@@ -17,6 +17,7 @@ use atl_world::Direction::{self, East, North, South, West};
 use atl_world::{Numbered, RegionPlan};
 use std::alloc::Global;
 
+/// The number of the neighbour of region `number` on a side; None without one, or such a region.
 fn region_next_to(regions: &Numbered<RegionPlan>, number: u32, side: Direction) -> Option<u32>
     ensures { result ≡ option_and_then (neighbour_to side) (get regions.now number) }
 {
@@ -62,6 +63,7 @@ fn check_neighbour(
     }
 }
 
+/// Checks the four sides of the i-th region, `draft`, else gives BadNeighbour at the first bad one.
 #[tactic(auto, unfolding(crate::specs::Neighbours::neighbours_at))]
 fn neighbours_of(
     alloc: Global,

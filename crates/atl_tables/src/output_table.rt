@@ -32,6 +32,7 @@ pub struct Output {
     pub amount: u32,
 }
 
+/// The entries of the table `output` at a path, in byte order of keys, else the first fault of one.
 fn output_entries(alloc: Global, at: &str, table: &Table) -> Result<Sequence<Output>, WorldFault>
     ensures value { Gives (λ v. v) result
         (first_fault (amounts_keys at.now (in_byte_order (table_view table.now))))

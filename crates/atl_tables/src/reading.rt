@@ -30,8 +30,7 @@ use atl_world::{Format, Item, Kind, Numbered, RegionPlan, Rules, Sequence, Skill
 use std::alloc::{AllocError, Global};
 use toml::Table;
 
-/// The parts of a world except its skills, with names looked up and the regions in the order of the
-/// file.
+/// The parts of a world except its skills, with names looked up, and regions in the file's order.
 #[derive(Drop)]
 pub struct WorldParts {
     pub rules: Rules,
@@ -66,6 +65,7 @@ fn read_optional_tables(alloc: Global, document: &Table) -> Result<OptionalTable
     })
 }
 
+/// The regions of the document as read, in the first format without markets, or the first fault.
 #[tactic(auto, unfolding(crate::specs::World::regions_conditions, crate::specs::World::regions_in))]
 fn read_regions(
     alloc: Global,
@@ -87,6 +87,7 @@ fn read_regions(
     }
 }
 
+/// All tables of the document in a format, as read, else the first fault of a key or an array.
 #[tactic(auto, unfolding(crate::specs::World::keys_conditions, crate::specs::World::tables_of))]
 fn tables(alloc: Global, format: Format, document: &Table) -> Result<WorldDraft, WorldFault>
     ensures value { Gives (λ t. t) result
@@ -128,6 +129,8 @@ fn names_differ(alloc: Global, all: &WorldDraft) -> Result<(), WorldFault>
     no_duplicates_inside(alloc, all.regions.as_slice())
 }
 
+/// The parts of the world, with names looked up, else the fault UnknownName at the first name that
+/// refers to nothing.
 #[tactic(auto, unfolding(crate::specs::World::names_are_known))]
 fn resolve(alloc: Global, all: &WorldDraft) -> Result<WorldParts, WorldFault>
     requires { IsWorldDraft all.now }
@@ -149,6 +152,7 @@ fn resolve(alloc: Global, all: &WorldDraft) -> Result<WorldParts, WorldFault>
     })
 }
 
+/// Whether a region's terrain is land; false if it isn't among `terrains`.
 fn is_land(terrains: &[Terrain], plan: &RegionPlan) -> bool
     ensures { result ≡ is_land terrains.now plan.now }
 {
@@ -199,7 +203,8 @@ fn world_with_land(
     Ok(World::from_parts(rules, terrains, items, skills, kinds, regions, land))
 }
 
-/// `parts` has the names of `all` looked up. They differ where they must (`ThingNamesDiffer`).
+/// The world of the tables `all`, whose `parts` have the names looked up; else the fault
+/// BadNeighbour or NoLand. Names of things of one sort must differ (`ThingNamesDiffer`).
 #[tactic(auto, unfolding(crate::specs::World::neighbours_are_mutual))]
 fn make_world(alloc: Global, all: WorldDraft, parts: WorldParts) -> Result<World, WorldFault>
     requires all { IsWorldDraft all }
@@ -223,6 +228,7 @@ fn make_world(alloc: Global, all: WorldDraft, parts: WorldParts) -> Result<World
     world_with_land(alloc, rules, terrains, items, skills, kinds, regions)
 }
 
+/// The world of the tables `all`, else the first fault of names, numbers, neighbours or land.
 fn from_tables(alloc: Global, all: WorldDraft) -> Result<World, WorldFault>
     requires { IsWorldDraft all }
     ensures { Gives (λ w. w) result (first_fault (table_conditions all)) (world_of_tables all) }
@@ -242,6 +248,7 @@ fn from_document(alloc: Global, format: Format, document: &Table) -> Result<Worl
     from_tables(alloc, all)
 }
 
+/// The world of a text in a format, else its first fault.
 #[tactic(auto, unfolding(crate::specs::World::world_of_text))]
 fn read(alloc: Global, format: Format, text: &str) -> Result<World, WorldFault>
     ensures { Reads (λ w. w) result (world_of_text format text.now) }
@@ -266,16 +273,14 @@ pub fn read_world(alloc: Global, text: &str) -> Result<World, WorldFault>
     read(alloc, Format::Second, text)
 }
 
-/// The world that a text describes in the first format, which ignores the markets of regions, or
-/// its first fault.
+/// The world that a text describes in the first format, which ignores markets, or its first fault.
 pub fn read_old_world(alloc: Global, text: &str) -> Result<World, WorldFault>
     ensures definition { Reads (λ w. w) result (old_world_of text.now) }
 {
     read(alloc, Format::First, text)
 }
 
-/// A law: a world of the first format has no markets, whatever its text has of them. The call does
-/// nothing.
+/// A law: a world of the first format has no markets, whatever its text has of them. Does nothing.
 pub fn old_worlds_have_no_markets()
     ensures { OldWorldsHaveNoMarkets }
 {}

@@ -44,8 +44,7 @@ impl Drop for RegionBasics {
     }
 }
 
-/// The numbers of a region's neighbours, `None` on a side without one. They are from 1 to
-/// `LAST_REGION`.
+/// The numbers of a region's neighbours, from 1 to `LAST_REGION`; `None` on a side without one.
 #[derive(Drop)]
 pub struct Sides {
     pub north: Option<u32>,
@@ -185,6 +184,7 @@ impl HasUniqueNames for RegionDraft {
     }
 }
 
+/// The number of the first terrain with `name`, ignoring ASCII case, else the fault UnknownName.
 fn known_terrain(
     alloc: Global,
     terrains: &[TerrainDraft],

@@ -43,8 +43,7 @@ pub(crate) fn add_name(
     Ok(new)
 }
 
-/// The index of the first element whose title equals one before it, ignoring ASCII case; `None` if
-/// there is none.
+/// The index of the first element whose title equals one before it, ignoring ASCII case, if any.
 pub(crate) fn first_duplicate<T: Titled>(
     alloc: Global,
     items: &[T],
@@ -106,6 +105,7 @@ pub(crate) fn no_duplicates_inside<T: HasUniqueNames>(
     Ok(())
 }
 
+/// The number (its index) of the first element with `name`, ignoring ASCII case; `None` without it.
 #[tactic(auto, unfolding(crate::specs::Titles::number_of))]
 pub(crate) fn number_of<T: Titled>(items: &[T], name: &Text) -> Option<u16>
     requires { length items.now ≤ most_numbered }

@@ -1,6 +1,6 @@
 //! The tables of a world file as read, with names not looked up yet, and their look-up. A call that
 //! may return a fault may also return `Memory`. Names are looked up once all tables are in their
-//! ranges. See docs/FORMATS.md, "The world file".
+//! ranges, and the records are then sound (`is_sound`). See docs/FORMATS.md, "The world file".
 ghost use Rattle.std.specs.Prelude.{◌≡◌, ℕ, IfOk, map};
 ghost use Rattle.std.specs.List.{All};
 ghost use Rattle.atl_tables.specs.Drafts.{IsWorldDraft};
@@ -57,8 +57,7 @@ pub(crate) trait Draft: Drop {
     /// The record of the world that the table becomes.
     type Record: Drop;
 
-    // What is true of each table as read: its names keep the rule of names, and its numbers are in
-    // their ranges.
+    // What is true of each table as read: names keep the rule of names, and numbers their ranges.
     ghost is_draft: { Self → Type 0 };
     // The conditions that each name in the i-th table is the name of a thing.
     ghost unknown: { WorldDraft → ℕ → Self → Conditions };

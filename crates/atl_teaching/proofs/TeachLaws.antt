@@ -62,8 +62,8 @@ module _ (c : CampaignValue) (taught after : TaughtMen) (n given : ℕ) (here : 
   not_taught places [] all = refl
   not_taught places (k ∷ ns) all = rw all.0 (not_taught (places - untaught_men c after k) ns all.1)
 
-  -- A lesson has places for `places` men. Unit `n` is first in turn and gets `given` of the places; `ns` are the units
-  -- after unit `n`.
+  -- A lesson has places for `places` men. Unit `n` is first in turn and gets `given` of them, up to its untaught men.
+  -- `ns` are the units after it, without n.
   module _ (places : ℕ) (ns : List ℕ) (is : given ≡ min places (untaught_men c taught n)) (others : AreOthers n ns) where
     -- once `given` men of unit n are taught, a lesson to the others, for the places left, leaves as many men of each
     -- unit taught as one lesson to all

@@ -52,15 +52,13 @@ abbrev pub study_tasks : MonthValue → List Task
 study_tasks = orders_by_unit is_studying
 
 -- The units that are learning as the phase begins, each with its skill: by all orders of STUDY that count. A unit that
--- learns by several has the skill of the last one; if the mailings can be read with the world, it learns by one at
--- most.
+-- learns by several has the skill of the last; if the mailings can be read with the world, it learns by one at most.
 unfoldable pub learners : WorldValue → CampaignValue → MonthValue → Learning
 learners w c m = fold (with_learner w c) empty (study_tasks m)
 
 -- ---- a law: which units are learning
 
--- unit n, which has men and the fee for all of them, learns this skill by an order of STUDY that counts, from its own
--- faction
+-- unit n, which has men and the fee for all of them, learns this skill by its own faction's order of STUDY that counts
 pub record IsLearning (w : WorldValue) (c : CampaignValue) (m : MonthValue) (n skill : ℕ) : Type 0 where
   pub order : Task
   pub counts : Contains (study_tasks m) order
@@ -70,8 +68,7 @@ pub record IsLearning (w : WorldValue) (c : CampaignValue) (m : MonthValue) (n s
   -- the unit is of the faction that gives the order, and has men and the fee for all of them
   pub can : learns w skill order.faction (get c.units n) ≡ true
 
--- The units in `learners` are exactly those that learn by an order of STUDY (`IsLearning`), each with a skill that it
--- learns so.
+-- The units in `learners` are exactly those that learn by an order (`IsLearning`), each with a skill that it learns so.
 pub record LearnByOrders (w : WorldValue) (c : CampaignValue) (m : MonthValue) : Type 0 where
   -- a unit that is in `learners` with a skill learns this skill by an order
   pub only : (n skill : ℕ) → get (learners w c m) n ≡ Some skill → IsLearning w c m n skill

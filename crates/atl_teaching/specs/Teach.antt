@@ -126,7 +126,6 @@ after_lessons c learning m = fold (teach_order c learning) ((λ n. 0), m) (order
 abbrev pub AreTaughtOnce : CampaignValue → TaughtMen → Type 0
 AreTaughtOnce c taught = (n : ℕ) → taught n ≤ men_at c n
 
--- A law: whichever units are learning, all orders of TEACH of a month together teach no more men of a unit than it has
--- (`AreTaughtOnce`).
+-- A law: whichever units are learning, all orders of TEACH of a month together teach of no unit more men than it has.
 abbrev pub NobodyIsTaughtTwice : Type 0
 NobodyIsTaughtTwice = (c : CampaignValue) (learning : Learning) (m : MonthValue) → AreTaughtOnce c (after_lessons c learning m).0

@@ -1,4 +1,6 @@
-//! TEACH: people teach units that are learning. See docs/RULES.md, "Learning".
+//! TEACH: people teach units that are learning. `learning` has by unit the skill that it learns,
+//! `taught` how many of its men were taught so far. An `order` that is carried out, or whose list
+//! is read, has the form of TEACH. See docs/RULES.md, "Learning".
 ghost use Rattle.std.specs.Prelude.{◌≡◌, ◌≤◌, ◌+◌, IfOk, OnOk, filter, nat_eq};
 ghost use Rattle.std.specs.List.{IsDistinct};
 ghost use Rattle.atl_world.specs.Worlds.{WorldValue};
@@ -31,6 +33,7 @@ impl PhaseVerbs for TeachVerbs {
     }
 }
 
+/// The units that an order of TEACH lists.
 fn listed_units<'m>(order: PhaseOrder<'m>) -> &'m [UnitRef]
     requires { shape_of (task_of order).order_value.operands ≡ (row_of Verb.Teach).shape }
     ensures { result.now ≡ listed_units (task_of order.entry).order_value.operands }
@@ -88,6 +91,7 @@ fn pupils_of(
     Ok(list)
 }
 
+/// Those of the pupils whose level in what they learn is lower than the teacher's, in order.
 fn pupils_below(
     alloc: Global,
     campaign: &Campaign,
@@ -139,7 +143,8 @@ fn men_at(campaign: &Campaign, unit: u32) -> u32
     }
 }
 
-/// The men of a unit who weren't taught yet in this month; 0 where the unit isn't there.
+/// The men of a unit who weren't taught yet in this month; 0 where the unit isn't there. With those
+/// who were taught their number fits 32 bits.
 fn untaught_men(campaign: &Campaign, taught: &Numbered<u32>, unit: u32) -> u32
     ensures value { result ≡ untaught_men campaign.now.value (amount_of taught.now) unit }
     ensures room { amount_of taught.now unit + result ≤ 4294967295 }
@@ -188,6 +193,8 @@ fn give_lesson(
     Ok(Outcome::Done(u64::from(men)))
 }
 
+/// Why the unit of an order can't teach; None where it can. Of its `pupils` those in `below` have a
+/// lower level than the unit.
 fn teach_fault(
     campaign: &Campaign,
     order: PhaseOrder<'_>,
@@ -209,6 +216,7 @@ fn teach_fault(
     }
 }
 
+/// Carries out an order of TEACH, and returns its outcome. With a fault nobody is taught by it.
 #[tactic(auto, unfolding(crate::specs::Teach::teach))]
 fn teach(
     alloc: Global,
@@ -234,9 +242,8 @@ fn teach(
 }
 
 /// Carries out all orders of TEACH, which are such as can be read with some world, and adds their
-/// events to the month, which else stays as it is. `learning` has by unit the skill that it learns.
-/// Returns how many men of each unit were taught. AllocError without memory; the month may then
-/// have some of the events.
+/// events to the month, which else stays as it is. Returns how many men of each unit were taught.
+/// AllocError without memory; the month may then have some of the events.
 pub fn teach_all(
     alloc: Global,
     campaign: &Campaign,
@@ -261,8 +268,7 @@ pub fn teach_all(
     Ok(taught)
 }
 
-/// The law that of no unit more men are taught in a month than it has, however many units teach it.
-/// Does nothing.
+/// A law: of no unit more men are taught in a month than it has, whoever teaches it. Does nothing.
 pub fn nobody_is_taught_twice()
     ensures { NobodyIsTaughtTwice }
 {}

@@ -120,10 +120,10 @@ owed_all : (b : Bool) (lost x all : ℕ) (books : ℤ) → pos all ≡ books +�
     → pos all ≡ (books +ℤ cond b (neg_ℤ (pos lost)) (pos 0)) +ℤ pos (x + cond b lost 0)
 owed_all b lost x all books h = grind (arith, ints, h)
 
--- `t` is a thing of the world; `n` is the unit whose goods may be passed on
+-- `t` is a thing of the world, and `n` the unit whose goods may be passed on; campaign `c` is steady
 module _ (w : WorldValue) (c : CampaignValue) (n : ℕ) (t : Thing) (inside : thing_index t < thing_count w) (steady : IsSteady w c) where
-  -- If `amount` of the thing is booked as lost, and no unit gets it, this is a case of `PassesOn`. The units stay as
-  -- they were, so the thing's total is above its books by the amount more than before.
+  -- If `amount` of the thing is booked as lost, and no unit gets it, this is a case of `PassesOn`: the thing's total is
+  -- above its books by the amount more than before. Only Lost of the thing moves, by at most the amount.
   pub all_lost : (amount : ℕ)
       → PassesOn w n (λ s. amount_as_thing s t amount) (moves_only amount Lost t) c (with_lost c t amount)
   all_lost amount = record {
@@ -152,7 +152,7 @@ module _ (w : WorldValue) (c : CampaignValue) (n : ℕ) (t : Thing) (inside : th
     grown : (s : Thing) → total given s ≡ total c s + amount_as_thing s t taken
     grown s = omega (arith, total-new_holding w c k v h is s, more s)
 
-    -- giving a part of an amount to a unit and booking the rest as lost is passing it on (`PassesOn`)
+    -- giving `taken` to the unit and booking `lost` as lost passes both on; only Lost moves, by at most both together
     pub part_lost : PassesOn w n (λ s. amount_as_thing s t (taken + lost)) (moves_only (taken + lost) Lost t) c (with_lost given t lost)
     part_lost = record {
       steady = steady-amount w given Lost t (neg_ℤ (pos lost)) inside (steady-new_holding w c k v h is may steady);
@@ -205,7 +205,7 @@ accepted_and_rest amount have = omega arith
 accepted_fits : (amount have : ℕ) → have ≤ holding_limit → have + accepted_of amount have ≤ holding_limit
 accepted_fits amount have l = omega arith
 
--- unit `n` passes things on to number `k`, which isn't `n`; without a unit there all is booked as lost
+-- unit `n` passes things on to number `k`, which isn't `n`, in a steady campaign; without unit `k` all is lost
 module _ (w : WorldValue) (c : CampaignValue) (n k : ℕ) (apart : n ≢ k) (steady : IsSteady w c) where
   -- campaign `d` is one in which an amount of a thing of unit `n` was passed on (`PassesOn`), which moves Lost alone
   abbrev Passed : Thing → ℕ → CampaignValue → Type 0
@@ -303,7 +303,7 @@ module _ (w : WorldValue) (c : CampaignValue) (n k : ℕ) (apart : n ≢ k) (ste
 -- ---- all that a unit has
 
 -- Items of the world (`es`) go in turn to unit `k`, if it is there, up to its room, with the rest booked as lost. In a
--- steady campaign they are then passed on from unit `n` (`PassesOn`), if `n` isn't `k`.
+-- steady campaign they are then passed on from unit `n` (`PassesOn`), if `n` isn't `k`. Only Lost of them moves.
 pub pass_items : (w : WorldValue) (c : CampaignValue) (n k : ℕ) → n ≢ k → (es : List (ℕ × ℕ))
     → EachEntry (λ i a. i < length w.items) es → IsSteady w c
     → PassesOn w n (held_in_items es) (items_bound es) c (fold (after_passing_item k) c es)

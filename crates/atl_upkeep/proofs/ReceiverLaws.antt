@@ -31,8 +31,6 @@ use Rattle.atl_world.proofs.EntryOrderLaws.{less_by_comparison}
 
 -- `p` is a test of the values of a map, whose keys are numbers
 module _ {V : Type 0} (p : V → Bool) where
-  -- For `below_listed`: P follows from `k` being listed in `ns`, with `n` in front (if `b`) or without, if it follows
-  -- from `k` being `n`, and from `k` being listed in `ns`.
   either_listed : {P : Type 0} (b : Bool) (n k : ℕ) (ns : List ℕ) → (k ≡ n → P) → (IsListed k ns → P)
       → IsListed k (cond b (n ∷ ns) ns) → P
   either_listed true n k ns here rest (inl same) = here same

@@ -180,7 +180,7 @@ module _ (w : WorldValue) (n : ℕ) (there : HasValue w.regions n) where
 pub none_there : entries (empty {X = Market} {R = nat_cmp}) ≡ []
 none_there = entries-empty
 
--- `n` is the number of a region, which the world may have or not
+-- `w` is a world (`IsWorld`), and `n` the number of a region, which it may have or not
 module _ (w : WorldValue) (world : IsWorld w) (n : ℕ) where
   -- the markets of a region that the world has are those of its plan, which is what the world says of it (`RegionPlan`)
   pub markets_there : (p : RegionPlan) → get w.regions n ≡ Some p → markets_of w n ≡ p.markets

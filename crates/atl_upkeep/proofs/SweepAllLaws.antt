@@ -60,7 +60,7 @@ module _ (c : CampaignValue) (n : ℕ) where
       by_unit None is = stays (λ v there. none_some v (sym is ∙ there))
       by_unit (Some u) is = by_men u is (u.holding.men == 0) refl
 
--- `n` is the number of the unit that is swept, and `c` is the campaign before that
+-- `n` is the number of the unit that is swept, and `c` is the steady campaign before that
 module _ (w : WorldValue) (c : CampaignValue) (n : ℕ) (steady : IsSteady w c) where
   -- Sweeping unit `n` keeps a steady campaign steady and of the same month, and its books balanced (`LeavesWell`). It
   -- books at most 999,999,999 of money and of each item as lost, and nothing else.
@@ -216,7 +216,7 @@ few_menless w c steady =
     let es = entries c.units in
     omega (arith, length-map (filter menless es) (λ (e : ℕ × Unit). e.0), length-filter menless es, count_by-le-length menless es, len-entries c.units, steady.numbers.few_units)
 
--- `c` is the campaign as the phase begins
+-- `c` is the steady campaign as the phase begins
 module _ (w : WorldValue) (c : CampaignValue) (steady : IsSteady w c) where
   abbrev units_swept : CampaignValue
   units_swept = fold after_sweeping_unit c (menless_units c)

@@ -45,8 +45,8 @@ use Rattle.atl_instant.specs.Quit.{loss_under}
 abbrev owing_all : HoldingValue → Thing → ℕ
 owing_all h s = amount_as_thing s Money h.money + held_in_items (entries h.items) s
 
--- the bound on what passing on all of a holding books: Lost of its money and of each item, each by at most as much as
--- it has
+-- the bound on what passing on all that a unit holds (`h`) books: Lost of its money and of each item, each by at most
+-- as much as it has
 abbrev pub moving_all : HoldingValue → BookBound
 moving_all h = both_move (moves_only h.money Lost Money) (items_bound (entries h.items))
 
@@ -75,7 +75,7 @@ pub first_listed : (ns : List ℕ) → first_or_zero ns ≢ 0 → IsListed (firs
 first_listed [] some = absurd (some refl)
 first_listed (n ∷ ns) some = inl refl
 
--- unit `n` is `u`, and has no men; `c` is the campaign before it is swept
+-- unit `n` is `u`, and has no men; `c` is the steady campaign before it is swept
 module _ (w : WorldValue) (c : CampaignValue) (n : ℕ) (u : Unit) (is : get c.units n ≡ Some u) (none : u.holding.men ≡ 0) (steady : IsSteady w c) where
   not_received : (region faction : ℕ) (v : Unit) → get c.units n ≡ Some v → receives region faction v ≡ true → ⊥
   not_received region faction v there t =
@@ -194,7 +194,7 @@ near_leaves_room j k c d near room e t =
 successor_differs : (n : ℕ) → suc n ≢ n
 successor_differs n same = omega (arith, same)
 
--- below, `to` is the number of the unit that receives; `i` an item, and `x` or `xs` are items with their amounts
+-- `to` is the number of the unit that receives, `i` an item, `x` and `xs` items with amounts; campaign `c` is steady
 module _ (w : WorldValue) (c : CampaignValue) (steady : IsSteady w c) where
   -- An item of the world that goes to unit `to`, or is lost, is passed on (`PassesOn`), as if from the unit with the
   -- next number.

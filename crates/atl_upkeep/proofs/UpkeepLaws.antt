@@ -70,7 +70,7 @@ module _ (w : WorldValue) (left men : ℕ) (fewer : left ≤ men) where
       factors_swap : (most_days * men) * left ≡ men * (most_days * left)
       factors_swap = grind arith
 
--- the days of each skill that stay with `left` of a holding's men, rounded down (`going_of`); 0 days aren't listed
+-- the days of each skill that stay with `left` of the men of `h`, rounded down (`going_of`); 0 days aren't listed
 abbrev pub days_left : ℕ → HoldingValue → FinMap nat_cmp ℕ
 days_left left h = amounts_for (going_of left h) (keys h.days)
 
@@ -114,7 +114,7 @@ upkeep_in c s o = option_map_or (λ u.
     let paid = with_booking held Upkeep Money (neg_ℤ (pos s.paid)) in
     with_booking paid Starved People (neg_ℤ (pos s.starved))) o c
 
--- `s` is what upkeep takes from one unit. Before, this unit is `u`, and has the money and the men that `s` takes.
+-- `s` is what upkeep takes from a unit. Before, in a steady campaign, this unit is `u`, and has the money and the men.
 module _ (w : WorldValue) (c : CampaignValue) (s : UpkeepResult) (u : Unit) (is : get c.units s.unit ≡ Some u) (spare : CanSpare s u.holding.men u.holding.money)
     (steady : IsSteady w c) where
   abbrev old : HoldingValue

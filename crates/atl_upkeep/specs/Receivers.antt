@@ -26,7 +26,7 @@ with_receiver_of m n u =
     if nat_lt 0 u.holding.men && (receiver_in m u.region u.faction == 0) then with_receiver m u.region u.faction n
     else m
 
--- a map has, for each region and faction, the campaign's receiver: the lowest-numbered unit with men there, or 0
+-- a map has the campaign's receiver for each region and faction: its lowest-numbered unit with men there, or 0
 abbrev pub AreReceivers : CampaignValue → ReceiverMap → Type 0
 AreReceivers c m = (region faction : ℕ) → receiver_in m region faction ≡ receiver c region faction
 

@@ -39,7 +39,7 @@ abbrev pub with_lost : CampaignValue → Thing → ℕ → CampaignValue
 with_lost c t amount = with_booking c Lost t (neg_ℤ (pos amount))
 
 -- how much more of a thing a unit has room for, given with its number, and 0 where it isn't there; `have` tells how
--- much of the thing a holding has
+-- much of the thing a unit holds
 abbrev pub room_at : CampaignValue → (number : ℕ) → (have : HoldingValue → ℕ) → ℕ
 room_at c number have = option_map_or (λ u. holding_limit - have u.holding) (get c.units number) 0
 

@@ -22,7 +22,7 @@ pub record CanPayUpkeep (w : WorldValue) (c : CampaignValue) (s : UpkeepResult) 
   pub steady : IsSteady w c
   pub room : HaveRoom (takes_up_to most_amount) c
 
--- after upkeep of a unit, if it is there, its holding is `after_upkeep`; nothing else is changed, and nothing is booked
+-- after upkeep a unit, if it is there, holds what `after_upkeep` says; nothing else is changed, and nothing is booked
 abbrev pub IsAfterUpkeep : CampaignValue → UpkeepResult → CampaignValue → Type 0
 IsAfterUpkeep before s after =
     (u : Unit) → get before.units s.unit ≡ Some u → after ≡ with_holding_at before s.unit (after_upkeep s u.holding) (Some u)

@@ -1,5 +1,5 @@
 //! Finds the units that receive, in the sweep, what units without men leave. See docs/RULES.md,
-//! "Sweep".
+//! "Sweep". AllocError without memory.
 ghost use Rattle.std.specs.Prelude.{◌≡◌, ◌≤◌, IfOk, OnOk};
 ghost use Rattle.atl_world.specs.Every.{Every};
 ghost use Rattle.atl_upkeep.specs.Receivers.{AreReceivers, receiver_in, with_receiver_of};

@@ -23,6 +23,7 @@ fn restock(market: &Market, stock: u32) -> u32
     market.restock.min(market.limit.saturating_sub(stock))
 }
 
+/// `market` is the world's market of the region for the item, and keeps the rules of markets.
 #[tactic(auto, unfolding(crate::specs::Restock::after_market_restock))]
 fn restock_market(
     world: &World,
@@ -51,8 +52,8 @@ fn restock_market(
 }
 
 /// Gives all markets of a region their new goods, one after another in the order of their items;
-/// nothing where the world has no such region. AllocError without memory; the campaign may then be
-/// changed in part.
+/// nothing where the world has no such region. `IsWorld` is promised for proofs alone. AllocError
+/// without memory; the campaign may then be changed in part.
 pub(crate) fn restock_region(
     world: &World,
     campaign: &mut Campaign,

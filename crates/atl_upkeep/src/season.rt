@@ -1,4 +1,5 @@
-//! The phase of the season: births, income and new goods of markets. See docs/RULES.md, "Season".
+//! The phase of the season: births, income and new goods of markets. AllocError without memory; the
+//! campaign may then be changed in part. See docs/RULES.md, "Season".
 ghost use Rattle.std.specs.Prelude.{◌≡◌, ◌≤◌, ◌<◌, ◌+◌, OnOk};
 ghost use Rattle.atl_world.specs.Worlds.{IsWorld};
 ghost use Rattle.atl_world.specs.Limits.{most_amount, most_growth};
@@ -15,9 +16,8 @@ use atl_phase::{Month, Phase, PhaseResult};
 use atl_world::World;
 use std::alloc::{AllocError, Global};
 
-/// The season: each region has births and income, and its markets get new goods. The words of the
-/// dice go to the regions in the order of their numbers; a region without a word has no season. See
-/// docs/RULES.md, "Season".
+/// The season: births, income and new goods of markets. The regions get the words of the dice in
+/// the order of their numbers; one without a word has no season. See docs/RULES.md, "Season".
 #[derive(Drop, Clone, Copy)]
 pub struct SeasonPhase;
 
@@ -37,6 +37,7 @@ fn income(per_peasant: u32, limit: u32, peasants: u32, money: u32) -> u32
     earned.min(u64::from(limit.saturating_sub(money))) as u32
 }
 
+/// `peasants` and `money` are those of the region of this number before.
 fn add_births_and_income(
     campaign: &mut Campaign,
     number: u32,
@@ -87,6 +88,7 @@ fn carry_out_season(
 }
 
 /// The words go to the regions in the order of their numbers; a region without one has no season.
+/// `IsWorld` is promised for proofs alone.
 fn carry_out_seasons(
     world: &World,
     campaign: &mut Campaign,

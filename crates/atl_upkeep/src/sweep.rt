@@ -1,5 +1,5 @@
 //! The phase of the sweep: removes units without men; factions without units are gone then. See
-//! docs/RULES.md, "Sweep".
+//! docs/RULES.md, "Sweep". AllocError without memory; the campaign may then be changed in part.
 ghost use Rattle.std.specs.Prelude.{◌≡◌, ◌≤◌, ◌<◌, ◌+◌, ◌-◌, IfOk, OnOk, fold, length, min};
 ghost use Rattle.atl_world.specs.Limits.{most_amount};
 ghost use Rattle.atl_records.specs.Books.{amount_in};

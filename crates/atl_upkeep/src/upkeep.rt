@@ -1,4 +1,5 @@
-//! The phase of upkeep: units pay, and men who aren't paid for starve. See docs/RULES.md, "Upkeep".
+//! The phase of upkeep: units pay, and men who aren't paid for starve. AllocError without memory;
+//! campaign and month may then be changed in part. See docs/RULES.md, "Upkeep".
 ghost use Rattle.std.specs.Prelude.{◌≡◌, ◌≤◌, ◌++◌, All, IfOk, OnOk, Some, filter, map};
 ghost use Rattle.atl_world.specs.Worlds.{WorldValue};
 ghost use Rattle.atl_campaign.specs.Covers.{MarksChanges};
@@ -20,6 +21,7 @@ use std::alloc::{AllocError, Global};
 #[derive(Drop, Clone, Copy)]
 pub struct UpkeepPhase;
 
+/// What upkeep reads of each unit, with men and money within the limits of a unit.
 fn upkeep_inputs_of(alloc: Global, campaign: &Campaign) -> Result<Vec<UpkeepInput>, AllocError>
     ensures list { IfOk result (λ list. list.items ≡ upkeep_inputs_of campaign.now.value) }
     ensures each { IfOk result (λ list. All IsUpkeepInput list.items) }
@@ -52,7 +54,7 @@ fn days_with(alloc: Global, left: u32, holding: &Holding) -> Result<Vec<(u32, u3
     Ok(list)
 }
 
-/// The upkeep of a unit some of whose men starve; books nothing.
+/// The upkeep of a unit some of whose men starve; books nothing, and marks no items.
 fn starve(
     alloc: Global,
     campaign: &mut Campaign,
@@ -75,7 +77,8 @@ fn starve(
     set_people(campaign, upkeep_result.unit, left, &days)
 }
 
-/// Takes the money paid, and the men who starve, from the unit; books nothing, and marks no items.
+/// Takes the money paid, and the men who starve, from the unit; books nothing, and marks no items,
+/// nor days where nobody starves.
 fn take_upkeep(
     alloc: Global,
     campaign: &mut Campaign,
@@ -102,6 +105,7 @@ fn take_upkeep(
     Ok(())
 }
 
+/// The upkeep of one unit, with its booking; marks no items, nor days where nobody starves.
 fn charge_upkeep(
     alloc: Global,
     campaign: &mut Campaign,

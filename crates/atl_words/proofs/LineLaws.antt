@@ -1,6 +1,7 @@
 -- How the first line of a text is split off, and at which index of the text it ends. Lines are the pieces between line
--- feeds, each without a carriage return at its end. `left` is what is left of the text, `front` a part with which a
--- text begins, and `rest` what follows a line feed, if there is one. `end` is the index of the first line feed.
+-- feeds, each without a carriage return at its end. `left` is what is left of the text, and `rest` what follows a line
+-- feed, if there is one. `front` and `mid` are what a text begins with, n is a number of bytes, and `end` the index of
+-- the first line feed.
 use Rattle.atl_words.proofs.WordLaws.{ends_further}
 use Rattle.std.proofs.Common.{Option, Some, None, IfSome, ◌≡◌, ◌≢◌, ℕ, zero, suc, ◌+◌, ◌-◌, ◌<◌, ◌≤◌, Bool, true, false, not, cond, List, [], ◌∷◌, ◌++◌, length, get_or, take, drop, map, refl, sym, ap, ◌∙◌, arith}
 use Rattle.std.specs.List.{position, position_or_len}

@@ -1,7 +1,7 @@
 -- Laws of the words of a line, by its first byte, and of the index of a word in the text. b is the first byte of a line
 -- and bs are those after it. `bytes` are those of a word, `to_end` is how many bytes the line has from the word's first
--- byte on, and `end` is the index of the text at which the line ends. i is an index of a line, and `rest` what a line
--- ends with.
+-- byte on, and `end` is the index of the text at which the line ends. i is an index of a line, n a number of its bytes,
+-- and `mid` and `rest` are what a line ends with.
 use Rattle.std.proofs.Common.{◌≡◌, ℕ, zero, suc, ◌+◌, ◌*◌, ◌-◌, ◌<◌, ◌≤◌, Bool, ◌||◌, not, true, false, cond, eqb, List, [], ◌∷◌, ◌++◌, length, get_or, take, drop, min, Some, None, nat_lt, refl, sym, ap, ◌∙◌, arith}
 use Rattle.std.specs.List.{slice_range, position, position_or_len, before_first}
 use Rattle.std.specs.Option.{unwrap_or}
@@ -53,8 +53,7 @@ pub words-comment : (bs : List ℕ) → words (semicolon ∷ bs) ≡ []
 unfolding words_after
 words-comment bs = refl
 
--- the first word of a line that begins with a quote ends at the next quote, or at the line's end, and the other words
--- come after that
+-- the first word of a line that begins with a quote ends at the next quote or the line's end; the others come after it
 pub words-quoted : (bs : List ℕ)
     → words (quote ∷ bs)
     ≡ record { bytes = before_first is_quote bs; quoted = true } ∷ words (drop 1 (drop (position_or_len is_quote bs) bs))

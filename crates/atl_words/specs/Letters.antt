@@ -1,4 +1,4 @@
--- The bytes that mailings treat specially.
+-- The bytes that mailings, texts with a player's orders, treat specially.
 use Prim.Native.Char.{code}
 use Rattle.std.specs.Prelude.{ℕ}
 

@@ -1,4 +1,4 @@
--- The limits of mailings. See docs/RULES.md, "Limits".
+-- The limits of mailings, texts with a player's orders for one month. See docs/RULES.md, "Limits".
 use Rattle.std.specs.Prelude.{ℕ}
 use Rattle.atl_world.specs.Limits.{most_amount}
 
@@ -10,7 +10,7 @@ most_bytes = 65536
 abbrev pub most_number : ℕ
 most_number = most_amount
 
--- the largest alias; the least is 1
+-- the largest alias, the number by which a mailing names a new unit; the least is 1
 abbrev pub last_alias : ℕ
 last_alias = 9999
 

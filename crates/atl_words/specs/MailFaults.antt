@@ -1,4 +1,4 @@
--- The numbers of mail faults. See docs/FORMATS.md, "Mailings".
+-- The numbers of mail faults: why a text can't be read as a mailing. See docs/FORMATS.md, "Mailings".
 use Rattle.std.specs.Prelude.{ℕ, Option, Some, None}
 use Rattle.atl_words.specs.declared.mail_fault.MailFault.{MailFault}
 use Rattle.atl_words.specs.declared.mail_fault.MailFault.TheVariants.{TooLong, NoHeader, BadHeader, Memory}

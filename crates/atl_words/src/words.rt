@@ -73,6 +73,7 @@ fn quoted_word(after: &[u8]) -> (Word<'_>, &[u8])
     (word, &rest[closing..])
 }
 
+/// The word without quotes that a line begins with, and what follows it.
 #[tactic(auto, using(crate::proofs::WordLaws::found_or_len, crate::proofs::WordLaws::found_within))]
 fn bare_word(line: &[u8]) -> (Word<'_>, &[u8])
     requires some { 0 < length line.now }

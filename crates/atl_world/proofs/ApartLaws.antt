@@ -136,7 +136,7 @@ no_marks room recent =
     none_recent set.empty room recent
     (let none : set.len {R = nat_cmp} set.empty ≡ 0 = set.len-empty nat_cmp in omega (arith, none))
 
--- a number n is to be marked, where v is the set of all marks, those of m and the recent ones of l, with the room of m
+-- the number n is to be marked; m and l are the marks (`AreMarks`), and v is the set of all of them with the room of m
 module _ (m l v : RoomySet) (n : ℕ) (seen : ◌≡◌ {A = RoomySet} (record { numbers = set.union m.numbers l.numbers; room = m.room }) v) (marks : AreMarks m l) where
   in_neither : set.contains v.numbers n ≡ false
       → (set.contains m.numbers n ≡ false) × (set.contains l.numbers n ≡ false)

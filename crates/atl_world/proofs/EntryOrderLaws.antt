@@ -24,6 +24,7 @@ module _ {V : Type 0} where
   pub sorted_rest : (e : ℕ × V) (es : List (ℕ × V)) → is_sorted nat_cmp (e ∷ es) ≡ true → is_sorted nat_cmp es ≡ true
   sorted_rest e es h = (and_parts _ _ h).1
 
+  -- where the first of sorted entries has the number n or a greater one, the next, if any, has a greater one than n
   pub begins_later : (n : ℕ) (e : ℕ × V) (es : List (ℕ × V)) → is_sorted nat_cmp (e ∷ es) ≡ true → n ≤ e.0
       → BeginsFrom (n + 1) es
   begins_later n e [] h l = tt

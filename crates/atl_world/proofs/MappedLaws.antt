@@ -75,8 +75,7 @@ module _ {W : Type 0} where
       ap (λ o. by_order o ((k, w) ∷ e ∷ es) ((e.0, w) ∷ es) (e ∷ put nat_cmp k w es)) (below_last e.0 es fs k w (and_parts _ _ h).0)
       ∙ ap (λ xs. e ∷ xs) (put_last es fs k w (and_parts _ _ h).1)
 
-  -- if the entries of a map n begin with those of m, followed by (k, w), putting w into m under k adds (k, w) as the
-  -- last entry
+  -- if the entries of a map n begin with those of m and then (k, w), putting w into m under k adds (k, w) as the last
   pub insert_last : (m n : FinMap nat_cmp W) (k : ℕ) (w : W) (fs : List (ℕ × W)) → entries m ++ (k, w) ∷ fs ≡ entries n
       → entries (insert m k w) ≡ entries m ++ (k, w) ∷ []
   insert_last m n k w fs h =

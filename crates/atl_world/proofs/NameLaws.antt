@@ -1,4 +1,4 @@
--- Names and pass texts are ASCII, and so they are UTF-8. A word in quotes is the name that it means.
+-- Names and pass texts (passwords) are ASCII, and so they are UTF-8. A word in quotes is the name that it means.
 use Rattle.std.proofs.Common.{◌≡◌, ℕ, zero, suc, ◌<◌, Bool, true, List, [], ◌∷◌, get_or, refl, ap, arith}
 use Rattle.std.proofs.lemmas.Bool.{and_parts}
 use Rattle.std.proofs.lemmas.Bool.Decides.{nat_tests}

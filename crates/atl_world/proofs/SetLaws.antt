@@ -118,6 +118,7 @@ insert-union s t k = sets_are_equal _ _ (λ q.
     ∙ or_is_associative (eq_by_cmp nat_cmp q k) (set.contains s q) (set.contains t q)
     ∙ sym (set.contains-insert nat_cmp_total (set.union s t) k q ∙ ap (λ b. eq_by_cmp nat_cmp q k || b) (set.contains-union nat_cmp_total s t q)))
 
+-- the numbers of a list, put into a set, make it larger by no more than the length of the list
 pub len-union : (s : set.FinSet nat_cmp) (ks : List ℕ)
     → set.len (set.union s (set.from_list ks)) ≤ set.len s + length ks
 len-union s [] = let e : set.len (set.union s set.empty) ≡ set.len s = ap set.len (union-empty s) in omega (arith, e)
@@ -154,6 +155,7 @@ rest_below m k there h below = elim (nat_cmp k m) as (λ r. nat_cmp k m ≡ r �
   | Greater ↦ λ e yes. let l = ranked k m Greater (sym e) in absurd (omega (arith, l, below yes))
 ] refl h
 
+-- a set whose numbers are all less than `most` has at most `most` numbers
 pub len-below : (most : ℕ) (s : set.FinSet nat_cmp) → ((k : ℕ) → set.contains s k ≡ true → k < most) → set.len s ≤ most
 len-below zero s below =
     let none = len-within s set.empty (λ k there. absurd (omega (arith, below k there))) in

@@ -1,7 +1,7 @@
 -- Laws of maps by number with marks: there stays room for the marks, and taking a new value out undoes putting it in. v
--- has the values, m is the set of the marked numbers (or, by its type, a map), and r says for how many marks there is
--- room. n is the number that is put in, taken out or marked, o what the map has under it, Some of a value or None, x a
--- new value, and c a map with its marks. Most laws `Room-..` say that the room is still enough after a change.
+-- has the values, m is the set of the marked numbers (or, by its type, a map), and r is for how many marks there is
+-- room. n is the number that is put in, taken out or marked, k and q are numbers, and o is what the map has under n, or
+-- None. x is a new value, c a map with its marks. Most laws `Room-..` say that the room is still enough after a change.
 use Rattle.std.proofs.Common.{◌≡◌, ℕ, ◌+◌, ◌≤◌, Bool, true, false, cond, not, ◌&&◌, ◌||◌, length, Option, Some, None, refl, sym, ap, ◌∙◌, arith}
 use Rattle.std.specs.Prelude.{is_some}
 use Rattle.std.proofs.lemmas.Bool.{false≢true, or_right, or_left}
@@ -27,7 +27,7 @@ holds_of_key_test n q P here other =
     [ true ↦ λ e. here (same_key q n e) | false ↦ λ _. other ] refl
 
 module _ {V : Type 0} where
-  -- ---- the numbers that have a value or a mark: they are held
+  -- ---- the held numbers, those with a value or a mark: to change a value and mark its number leaves them as they are
 
   pub contains-held : (v : FinMap nat_cmp V) (m : set.FinSet nat_cmp) (q : ℕ)
       → set.contains (valued_or_marked v m) q ≡ (set.contains m q || is_some (get v q))
@@ -123,6 +123,7 @@ module _ {V : Type 0} where
   pub get_inserted : (m : FinMap nat_cmp V) (n : ℕ) (x : V) → get (insert m n x) n ≡ Some x
   get_inserted m n x = get-insert nat_cmp_total m n x n ∙ ap (λ b. cond b (Some x) (get m n)) (key_itself n)
 
+  -- if the room is enough for all marks and, with x put in, for all values, the marks with n added fit in it
   pub fits-inserted : (v : FinMap nat_cmp V) (m : set.FinSet nat_cmp) (r n : ℕ) (x : V)
       → set.len m + len (insert v n x) ≤ r → set.len (set.insert m n) ≤ r
   fits-inserted v m r n x h =

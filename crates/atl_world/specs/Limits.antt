@@ -43,7 +43,7 @@ last_region = 99999
 abbrev pub most_amount : ℕ
 most_amount = 999999999
 
--- the most bytes of a name or of a pass text
+-- the most bytes of a name or of a pass text, which is a password
 abbrev pub most_name_bytes : ℕ
 most_name_bytes = 40
 
@@ -77,6 +77,6 @@ last_level = 5
 abbrev pub most_raw_count : ℕ
 most_raw_count = 1000
 
--- the largest size of a structure, in material, and the largest crew, in men times levels
+-- the largest size of a structure, in material, and the largest crew of a ship, in men times levels of sailing
 abbrev pub most_size : ℕ
 most_size = 999999

@@ -1,4 +1,4 @@
--- The rules of names and pass texts, and when two names are equal. See docs/RULES.md, "Names and pass texts".
+-- The rules of names and of pass texts (passwords); which names are equal. See docs/RULES.md, "Names and pass texts".
 use Rattle.std.specs.Prelude.{ℕ, Bool, ◌&&◌, not, ◌==◌, ◌-◌, nat_le, nat_lt, List, length, map, slice_index_or}
 use Rattle.std.specs.List.{list_all, IsDistinct}
 use Rattle.std.specs.Str.{bytes_eq}

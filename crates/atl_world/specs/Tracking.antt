@@ -9,8 +9,7 @@ use denote.RattleType.{RattleType}
 use Rattle.atl_world.specs.MarkedMaps.{MarkedMapValue}
 use Rattle.atl_world.specs.contracts.marked_map.MarkedMap.{the_row}
 
--- `marked_with marks n value` is the marks with n added, if a map has a value under n (`value` is Some), else the marks
--- as they are
+-- `marked_with marks n value`: the marks as they are, or with n added if `value`, what a map has under n, is Some
 abbrev pub marked_with : {V : Type 0} → set.FinSet nat_cmp → ℕ → Option V → set.FinSet nat_cmp
 marked_with marks n None = marks
 marked_with marks n (Some v) = set.insert marks n
@@ -38,8 +37,8 @@ module _ {V : Type 0} where
   abbrev pub without_values : MarkedMapValue V → MarkedMapValue V
   without_values c = record { values = map.empty; marks = set.union c.marks (set.from_list (map.keys c.values)) }
 
-  -- the map with a new value under n taken out again: if the flag says that n was marked before the value was put in,
-  -- this is `without_value`, else the map without the value under n and without the mark of n
+  -- The map with a new value under n taken out again. If the flag says that n was marked before the value was put in,
+  -- this is `without_value`, else the map without the value under n and without the mark of n.
   abbrev pub without_new_value : MarkedMapValue V → ℕ → Bool → MarkedMapValue V
   without_new_value c n true = without_value c n
   without_new_value c n false = record { values = map.remove c.values n; marks = set.remove c.marks n }

@@ -14,7 +14,7 @@ pub record Row : Type 0 where
   pub shape : Shape
   pub slot : Option Slot
 
--- the row of the order table with a keyword, a shape and a slot
+-- the row of the order table with a keyword, a shape, and a slot or None
 abbrev pub row : List ℕ → Shape → Option Slot → Row
 row keyword shape slot = record { keyword = keyword; shape = shape; slot = slot }
 

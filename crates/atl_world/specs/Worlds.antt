@@ -107,7 +107,7 @@ pub record IsTerrain (items : ℕ) (t : Terrain) : Type 0 where
   pub output : All (λ amount. amount ≤ most_amount) t.output
 
 -- The name of the item x, whose number is i, keeps the rule of names, and its numbers are in their ranges. Its skill,
--- if any, is one of `skills` skills, and its raw item, if any, is another one of `items` items.
+-- if any, is one of `skills` skills, and the item that it is made of, if any, is another one of `items` items.
 pub record IsItem (items skills i : ℕ) (x : Item) : Type 0 where
   pub name : name_ok x.name ≡ true
   pub weight : x.weight ≤ most_weight

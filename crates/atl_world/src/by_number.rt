@@ -85,8 +85,7 @@ impl World {
         }
     }
 
-    /// The size of a complete structure of a kind, in material; `MOST_SIZE` if there is no such
-    /// kind.
+    /// The size of a complete structure of a kind, in material; `MOST_SIZE` without such a kind.
     pub fn size_of(&self, kind: u16) -> u32
         ensures { result ≡ size_of self.now kind }
     {

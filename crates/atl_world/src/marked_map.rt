@@ -111,8 +111,7 @@ impl<V: Drop> MarkedMap<V> {
         Ok(())
     }
 
-    /// Takes out the value under a number and marks the number, if there is a value. It takes no
-    /// memory.
+    /// Takes out the value under a number, if any, and marks the number then. It takes no memory.
     pub fn remove(&mut self, number: u32)
         ensures { self.new ≡ without_value self.old number }
     {
@@ -134,7 +133,7 @@ impl<V: Drop> MarkedMap<V> {
         }
     }
 
-    /// Makes a `MarkedMap` of a map, with nothing marked and with room to mark each of its numbers.
+    /// The map of these values, none marked, with room to mark each; AllocError without memory.
     pub fn from_values(alloc: Global, values: Numbered<V>) -> Result<Self, AllocError>
         ensures { IfOk result (λ made. made ≡ record { values = values; marks = set.empty }) }
     {
@@ -198,6 +197,7 @@ impl<V: Drop> MarkedMap<V> {
         self.marks.iter()
     }
 
+    /// How many numbers are marked, at most 2^32.
     pub fn marked_count(&self) -> usize
         ensures value { result ≡ set.len self.now.marks }
         ensures small { result ≤ number_count }

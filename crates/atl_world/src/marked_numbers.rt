@@ -6,8 +6,7 @@ use std::cmp::Ordering;
 use std::marker::Model;
 use std::slice::Iter;
 
-/// An iterator over the marked numbers of a `Marks`, in ascending order: those that are left to
-/// come.
+/// An iterator over the marked numbers of a `Marks` that are left to come, in ascending order.
 #[derive(Drop)]
 pub struct MarkedNumbers<'a> {
     // What is left of the first list of the `Marks`: of the numbers except for the recent ones.

@@ -62,7 +62,7 @@ impl Marks {
         }
     }
 
-    /// The empty set, with room for `room` numbers.
+    /// The empty set, with room for `room` numbers. AllocError comes without memory.
     pub fn with_room(alloc: Global, room: usize) -> Result<Marks, AllocError>
         ensures { IfOk result (λ marks. marks ≡ record { numbers = set.empty; room = room }) }
     {
@@ -152,6 +152,7 @@ impl Marks {
         self.numbers.contains(number) || self.recent.contains(number)
     }
 
+    /// How many numbers are marked, at most 2^32.
     pub fn len(&self) -> usize
         ensures value { result ≡ set.len self.now.numbers }
         ensures small { result ≤ number_count }

@@ -1,4 +1,5 @@
-//! The rules for names and pass texts. See docs/RULES.md, "Names and pass texts".
+//! The rules for names and pass texts (passwords); `quoted` says whether a word is in quotes.
+//! See docs/RULES.md, "Names and pass texts".
 ghost use Rattle.std.specs.Prelude.{◌≡◌};
 ghost use Rattle.std.specs.List.{list_all};
 ghost use Rattle.atl_world.specs.Names.{name_ok, pass_ok, has_allowed_length, is_name_byte, is_pass_byte, has_no_edge_space};

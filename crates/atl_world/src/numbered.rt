@@ -52,8 +52,7 @@ impl<V: Drop> Numbered<V> {
         self.entries.get_mut(&number)
     }
 
-    /// Puts a value under a number, in place of any that is there; without memory it changes
-    /// nothing.
+    /// Puts a value under a number, in place of any that is there; without memory nothing changes.
     pub fn insert(&mut self, number: u32, value: V) -> Result<(), AllocError>
         ensures ok { OnOk result (self.new ≡ map.insert self.old number value) }
         ensures err { OnErr result (self.new ≡ self.old) }

@@ -45,7 +45,7 @@ impl<T: Drop> Sequence<T> {
         self.items
     }
 
-    /// A list with copies of the values of a slice.
+    /// A list with copies of the values of a slice. AllocError comes without memory.
     pub fn from_slice(alloc: Global, values: &[T]) -> Result<Self, AllocError>
     where
         T: Copy,

@@ -50,7 +50,7 @@ impl SortedNumbers {
         }
     }
 
-    /// The empty list, with room for `room` numbers.
+    /// The empty list, with room for `room` numbers. AllocError comes without memory.
     pub fn with_room(alloc: Global, room: usize) -> Result<SortedNumbers, AllocError>
         ensures { IfOk result (λ made. made ≡ record { numbers = set.empty; room = room }) }
     {
@@ -122,6 +122,7 @@ impl SortedNumbers {
         }
     }
 
+    /// How many numbers the list has. Each of them is below 2^32 (`low`).
     pub fn len(&self) -> usize
         ensures value { result ≡ set.len self.now.numbers }
         ensures low { (n : ℕ) → set.contains self.now.numbers n ≡ true → n < number_count }
@@ -147,7 +148,7 @@ impl SortedNumbers {
     }
 }
 
-/// Ok with the index of a number that the list has, else Err with the index where it belongs.
+/// Ok with the index of a number that a sorted list has, else Err with the index where it belongs.
 fn index_of(numbers: &[u32], number: u32) -> Result<usize, usize>
     requires { IsStrictlySortedBy nat_cmp numbers.now }
     ensures found { IfOk result (λ index. IsAt numbers.now number index) }
@@ -160,6 +161,7 @@ fn index_of(numbers: &[u32], number: u32) -> Result<usize, usize>
     }
 }
 
+/// Puts a number in at an index; those from there on move on by one. There is room for it.
 fn put_at(numbers: &mut Vec<u32>, index: usize, number: u32)
     requires within { index ≤ length numbers.old.items }
     requires room { length numbers.old.items < vec_capacity numbers.old }
@@ -169,8 +171,7 @@ fn put_at(numbers: &mut Vec<u32>, index: usize, number: u32)
     let _ = numbers.insert(index, number);
 }
 
-/// The length of a slice. `last` is any number of 32 bits, and so below 2^32 (`small`):
-/// `SortedNumbers::len` needs this.
+/// The length of a slice. Any `last` is below 2^32 (`small`), which `SortedNumbers::len` needs.
 fn length_of_bounded(numbers: &[u32], last: u32) -> usize
     ensures value { result ≡ length numbers.now }
     ensures small { last < number_count }
@@ -197,6 +198,7 @@ fn append(numbers: &mut Vec<u32>, others: &[u32])
     }
 }
 
+/// Whether the last of the first `count` numbers is above `other`; false if `count` is 0.
 fn is_last_above(numbers: &[u32], count: usize, other: u32) -> bool
     requires { count ≤ length numbers.now }
     ensures { IsTrue result ↔ ((0 < count) × (other < slice_index numbers.now (count - 1))) }
@@ -205,7 +207,8 @@ fn is_last_above(numbers: &[u32], count: usize, other: u32) -> bool
 }
 
 /// Merges `others` into the first `own` numbers of the slice, after which it has a place for each
-/// of the others. The largest number is put in place first, so each is moved at most once.
+/// of the others. Both are sorted and have no number in common. The largest number is put in place
+/// first, so each is moved at most once.
 fn merge(numbers: &mut [u32], own: usize, others: &[u32])
     requires size { length numbers.old ≡ own + length others.now }
     requires ascending { IsStrictlySortedBy nat_cmp (take own numbers.old) }
@@ -227,6 +230,7 @@ fn merge(numbers: &mut [u32], own: usize, others: &[u32])
     }
 }
 
+/// Merges sorted numbers into a sorted vector, which has room for both, and none of the others.
 fn merge_into(numbers: &mut Vec<u32>, others: &[u32])
     requires room { length numbers.old.items + length others.now ≤ vec_capacity numbers.old }
     requires ascending { IsStrictlySortedBy nat_cmp numbers.old.items }

@@ -44,8 +44,7 @@ pub struct Rules {
 /// A terrain, such as a forest: whether it is land, and what a region of it pays, holds and gives.
 #[derive(Debug)]
 pub struct Terrain {
-    /// The terrain's name, as the world file writes it; no two terrains have the same name,
-    /// ignoring ASCII case.
+    /// The terrain's name, as the world file writes it; no two have the same, ignoring ASCII case.
     pub name: Text,
     /// Whether the terrain is land, else it is water.
     pub land: bool,
@@ -71,8 +70,7 @@ impl Drop for Terrain {
 /// An item of goods: what it weighs, what it carries, and what making one takes.
 #[derive(Drop, Debug)]
 pub struct Item {
-    /// The item's name, as the world file writes it; no two items have the same name, ignoring
-    /// ASCII case.
+    /// The item's name, as the world file writes it; no two have the same, ignoring ASCII case.
     pub name: Text,
     /// The weight of one item, at most `MOST_WEIGHT`.
     pub weight: u32,
@@ -92,8 +90,7 @@ pub struct Item {
 /// A skill that men study, and its fee.
 #[derive(Drop, Debug)]
 pub struct Skill {
-    /// The skill's name, as the world file writes it; no two skills have the same name, ignoring
-    /// ASCII case.
+    /// The skill's name, as the world file writes it; no two have the same, ignoring ASCII case.
     pub name: Text,
     /// Money that a month of study costs a man, at most `MOST_PRICE`.
     pub fee: u32,
@@ -102,8 +99,7 @@ pub struct Skill {
 /// A kind of structure: what building one takes, and what it is good for.
 #[derive(Drop, Debug)]
 pub struct Kind {
-    /// The kind's name, as the world file writes it; no two kinds have the same name, ignoring
-    /// ASCII case.
+    /// The kind's name, as the world file writes it; no two have the same, ignoring ASCII case.
     pub name: Text,
     /// Whether the structure is a ship, else it is a building.
     pub ship: bool,

@@ -132,8 +132,8 @@ module _ (c : CampaignValue) (e : BooksEntry) (t : Thing) where
 -- the statements that write an amount of the books (`OfAmount`); `n` and `k` are the numbers that its row has for the
 -- entry and the thing
 module _ (c : CampaignValue) (e : BooksEntry) (t : Thing) (n k : ℕ) (entry : n ≡ entry_index e + 1) (thing : k ≡ thing_index t) where
-  -- the statement that puts the row of an amount, which is not 0, is the one that writes it; the row has `n` and `k`
-  -- for entry and thing
+  -- the statement that puts the row of an amount `z`, which is not 0, is the one that writes it; the row has `n` and
+  -- `k` for entry and thing
   pub amount_put : (z : ℤ) → z ≡ amount_in c.books e t → z ≢ pos 0
       → OfAmount c e t (upsert books_table 2) (books_row n k z)
   amount_put z amount some = rw (entry, thing, amount) (puts_amount (λ zero. some (amount ∙ zero)))

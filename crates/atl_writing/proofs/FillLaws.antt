@@ -90,7 +90,7 @@ module _ (c : CampaignValue) where
 
   -- ---- the whole
 
-  -- making the empty tables in a blank database, and then filling all parts, writes the founding (`WritesFounding`)
+  -- making the ten empty tables where there is no table (`IsBlank`), and then filling all parts, writes the founding
   pub founding_done : (text : List ℕ) (parts : List Part) → list_all (is_among parts) all_parts ≡ true
       → (start mid end : State) → DoesInside IsBlank AreEmpty start mid
       → DoesInside HasTables (FillsWithOwn text c parts) mid end → DoesInside IsBlank (WritesFounding text c) start end

@@ -72,7 +72,6 @@ module _ {V : Type 0} (lines : ℕ → V → List Row) (more : ℕ) (values : Fi
         let number : line.0 ≡ n = same_number line.0 n (sym (are.numbered line.0 line.1 r line.3) ∙ begins_key n r is) in
         (line.1, ap (get values) (sym number) ∙ line.2, subst (λ k. Has (lines k line.1) r) number line.3)
 
-    -- for `lines_done`, of the databases alone: deleting a number's rows and putting those of its value rewrites them
     lines_rewrite : (old mid new : Database) → Drops table 1 (int n ∷ []) old mid → (v : V) → get values n ≡ Some v
         → PutsRows table (suc more) (lines n v) mid new → RewritesGroup table Wanted n old new
     lines_rewrite old mid new dropped v there did =
@@ -119,8 +118,8 @@ module _ {V : Type 0} (lines : ℕ → V → List Row) (more : ℕ) (values : Fi
         inside_weaker HasTables (Drops table 1 (int n ∷ [])) (RewritesGroup table Wanted n) old new
         (λ has drops. bare_rewrite old.now new.now drops none) did
 
--- to put a wanted row is a statement of the campaign's rows (`OfRow`), if the part's keys have `more + 1` columns, and
--- each wanted row is one of the part's, whatever the campaign row `own` is
+-- To put a wanted row is a statement of the campaign's rows (`OfRow`). Premises: the part's keys have `more + 1`
+-- columns, and each wanted row is one of the part's, whatever the campaign row `own` is.
 pub puts_wanted : (part : Part) (more : ℕ) → key_width_of part ≡ suc more → (Wanted : CampaignValue → Row → Type 0)
     → ((own : Row) (c : CampaignValue) (r : Row) → Wanted c r → rows_for own c part r) → (c : CampaignValue) (r : Row)
     → Wanted c r

@@ -166,7 +166,7 @@ module _ (units : FinMap nat_cmp Unit) where
   pub amount_none : (n : ℕ) (sort : ThingKind) (thing : ℕ) → get units n ≡ None → amount_under units n sort thing ≡ 0
   amount_none n sort thing none = ap (λ o. amount_of (things_under sort o) thing) none ∙ under_none sort thing
 
-  -- with a unit of the number an amount is the one that this unit's holding has
+  -- with a unit of the number an amount is the one that this unit holds
   pub amount_some : (n : ℕ) (sort : ThingKind) (thing : ℕ) (u : Unit) → get units n ≡ Some u
       → amount_under units n sort thing ≡ amount_of (things_of sort u.holding) thing
   amount_some n sort thing u there =

@@ -26,7 +26,6 @@ use Rattle.atl_writing.proofs.WholeLaws.{inside_weaker}
 -- ---- the campaign's own row
 
 module _ (c : MarkedCampaign) where
-  -- for `head_done`, of the databases alone: putting the campaign row rewrites it, if it is marked
   head_put : (b : Bool) → c.marks.row ≡ b → b ≡ true → (old new : Database)
       → PutsCampaignRow (campaign_row_of c.value) [] old new → RewritesCampaignRow c old new
   head_put b is set old new did before text was =

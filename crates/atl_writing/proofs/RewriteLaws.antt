@@ -29,8 +29,6 @@ use Rattle.atl_world.proofs.GeneralLaws.{same_key, key_itself}
 
 -- ---- one step after another
 
--- for one row: to rewrite it if the test `p` is true, and then if `q` is, is to rewrite it if "`p` or `q`" is true
--- (`IfElse`)
 chosen_step : (p q : Bool) (W M N : Type 0) → N ↔ IfElse p W M → IfElse q W N ↔ IfElse (p || q) W M
 chosen_step true true W M N same = (λ h. h, λ h. h)
 chosen_step false true W M N same = (λ h. h, λ h. h)
@@ -61,8 +59,8 @@ module _ (table : Table) (Wanted : Set) where
     },
   )
 
-  -- where `rest` is "`step` or `next`": after the rows that `step` chooses, only those that `next` chooses are left to
-  -- rewrite
+  -- where `rest` is "`step` or `next`": once the rows that `step` chooses are rewritten, only those that `next` chooses
+  -- are left to rewrite
   pub one_less_remaining : (step rest next all : Row → Bool) → ((r : Row) → rest r ≡ (step r || next r))
       → (old mid new : State)
       → DoesInside HasTables (Remaining table Wanted rest all) old mid
@@ -199,8 +197,6 @@ module _ (table : Table) (Wanted : Set) where
 
 -- A test `p` that finds exactly the rows of a key, and new rows that are exactly the wanted rows of the key.
 module _ (p : Row → Bool) (Key New Wanted : Set) (found : (r : Row) → p r ≡ true → Key r) (finds : (r : Row) → Key r → p r ≡ true) (news : (r : Row) → New r → Key r × Wanted r) (olds : (r : Row) → p r ≡ true → Wanted r → New r) where
-  -- for `rewrites_key`: a row is new, or old without the key, exactly if it is wanted and `p` finds it, or old and `p`
-  -- doesn't
   in_place : (Were : Type 0) (r : Row) → (New r ⊎ (Were × ¬ Key r)) ↔ IfElse (p r) (Wanted r) Were
   in_place Were r = (ahead, back (p r) refl)
     where

@@ -27,7 +27,7 @@ stays_is t S a b same is = subst (λ rows. HasExactly rows S) (sym (same_rows t 
 -- ---- one table, and one after another
 
 module _ (Becomes : Part → List Row → List Row → Type 0) where
-  -- a change of one table changes its part alone (`Changes`), if its new rows are what `Becomes` says
+  -- giving a table the rows of the set `S` changes its part alone (`Changes`), if `Becomes` holds once it has them
   pub one_changed : (part : Part) (S : Set) (old new : Database) → Alters (table_of part) S old new
       → (HasExactly (rows_in (table_of part) new.trees) S → Becomes part (rows_in (table_of part) old.trees) (rows_in (table_of part) new.trees))
       → Changes Becomes (part ∷ []) old new

@@ -132,9 +132,9 @@ module _ (text : List ℕ) (c : CampaignValue) (old mid new : Database) (first :
           (λ there. absurd (subst (λ l. Has l r) (other_tables_stay Markets (λ e. absurd cc) ∙ ap (map (visible_row market_table)) first.empty) there), λ of. absurd (no_stocks c bare r of))
       rows part = rows_stay part (λ e. absurd cc) (in_first part (λ e. absurd cc))
 
--- In a database of the first format, to add the table `market`, from `start` to `mid`, and then to give the campaign
--- row the second format and the world text `text`, from `mid` to `end`, writes the upgrade: if the tables held the
--- campaign `c` without stocks, they hold it in the second format, with this text (`WritesUpgrade`).
+-- In a database of the first format two steps write the upgrade. From `start` to `mid` the table `market` is added;
+-- from `mid` to `end` the campaign row gets the second format and the world text `text`. If the tables held the
+-- campaign `c` without stocks, they then hold it in the second format, with this text (`WritesUpgrade`).
 pub upgrade_done : (text : List ℕ) (c : CampaignValue) (start mid end : State)
     → DoesInside IsFirstFormat AddsMarkets start mid
     → DoesInside HasTables (UpgradesCampaignRow (campaign_row_of c) text) mid end

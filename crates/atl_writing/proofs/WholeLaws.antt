@@ -73,8 +73,8 @@ module _ {S : Type 0} (g : Ghosts S) (old begun mid end : Held S) (begins : begu
       ))
       (survives_begin g old (state g mid) _ (rw begins at one)) two
 
-  -- BEGIN, step and commit together: on a clean disk the step is done and all is committed (`Commits`), if the commit
-  -- succeeds
+  -- BEGIN, step and commit together, on a clean disk: the step is done and all is committed (`Commits`). Premises: the
+  -- step is done and the commit succeeds; to what a crash may leave the commit adds at most the tables after the step.
   pub committed_after : (HasCleanDisk (state g mid) → DoesInside Before Does (state g begun) (state g mid))
       → Survives (state g mid) (state g end) (λ db. db ≡ (state g mid).now.trees)
       → (HasCleanDisk (state g end) → IsTrue (state g mid).in_transaction × Shows (state g mid) (state g end) (state g mid).now (state g mid).now false × KeepsCounts (state g mid) (state g end) × ((state g end).marks ≡ []))
@@ -91,6 +91,7 @@ module _ {S : Type 0} (g : Ghosts S) (old begun mid end : Held S) (begins : begu
         is_open = shows.is_open;
       }
 
+-- At `end` the connection is in no transaction (`over`). `own` are the statements that the step may run.
 module _ {S : Type 0} (g : Ghosts S) (old : Held S) (begun mid : MutBor (Held S)) (begins : begun.now ≡ record old { in_transaction = true }) (Before : Database → Type 0) (Does : Database → Database → Type 0) (end : Held S) (over : end.in_transaction ≡ false) where
   rolled_back : KeepsCommit (state g begun.now) (state g mid.now) → IsRolledBack (state g mid.now) (state g end)
       → LeavesOff (state g old) (state g end)
@@ -106,7 +107,8 @@ module _ {S : Type 0} (g : Ghosts S) (old : Held S) (begun mid : MutBor (Held S)
   inside_begun : IsTrue (state g begun.now).in_transaction
   inside_begun = ap (λ (h : Held S). h.in_transaction) begins
 
-  -- if the step fails and is rolled back, the whole is a transaction that fails with the step's error (`Transacts`)
+  -- If the step fails with the error `e`, and is rolled back on a clean disk, the whole is a transaction (`Transacts`)
+  -- whose result `r` hands on `e`. A premise: the rollback adds nothing to what a crash may leave.
   pub left_off : {own : Statements} {Inner : State → State → Type 0} {A B : Type 0} (r : Result A Error) {e : Error}
       → HandsOn e r → Writes g own Inner {A = B} (Err e) begun mid
       → (HasCleanDisk (state g end) → IsRolledBack (state g mid.now) (state g end))
@@ -119,7 +121,8 @@ module _ {S : Type 0} (g : Ghosts S) (old : Held S) (begun mid : MutBor (Held S)
     idle = over;
   }
 
-  -- if the step is done, the whole is a transaction with the result of the commit (`Transacts`)
+  -- If the step is done, the whole is a transaction with the commit's result `r` (`Transacts`). Premises: on a clean
+  -- disk the commit did as `r` says; to what a crash may leave it adds at most the tables after the step.
   pub committed : {own : Statements} {A B : Type 0} {b : B} (r : Result A Error)
       → Writes g own (DoesInside Before Does) (Ok b) begun mid
       → (HasCleanDisk (state g end) → OnOk r (IsTrue (state g mid.now).in_transaction × Shows (state g mid.now) (state g end) (state g mid.now).now (state g mid.now).now false × KeepsCounts (state g mid.now) (state g end) × ((state g end).marks ≡ [])))

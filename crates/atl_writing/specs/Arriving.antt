@@ -53,7 +53,7 @@ rows_with_amount c entry thing S r =
 abbrev pub WritesAmount : CampaignValue → BooksEntry → Thing → Database → Database → Type 0
 WritesAmount c entry thing old new = Alters books_table (rows_with_amount c entry thing (Has (rows_in books_table old.trees))) old new
 
--- the row is put into the table: it replaces the row with its number, or is added; every other row is as it was
+-- the row is put into the table: it replaces the row with its number, or is added; the table's other rows stay
 abbrev pub HasPut : Table → Row → Database → Database → Type 0
 HasPut table row old new = HasExactly (rows_in table new.trees) (put 1 row (Has (rows_in table old.trees)))
 

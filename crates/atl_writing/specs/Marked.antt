@@ -1,4 +1,4 @@
--- Which rows of each table are marked, by the marks of a campaign. The table `has` has the items and skills of units.
+-- Which rows of each table are marked, by the marks of a campaign. The table `has` has units' goods: items and skills.
 -- A test of a row is false where a column that it looks at is missing or isn't a whole number from 0.
 use Rattle.std.specs.Prelude.{◌==◌, ◌+◌, ◌*◌, ◌&&◌, ◌||◌, ℕ, Bool, true, false, pos, suc, is_some, nat_le, ◌∷◌}
 use Rattle.std.specs.Ordering.{nat_cmp}

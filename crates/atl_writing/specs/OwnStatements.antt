@@ -64,8 +64,8 @@ pub data OfUpgrade (text : List ℕ) (c : CampaignValue) : List ℕ → Row → 
   upgrades_tables : OfUpgrade text c (creation_of Markets) []
   upgrades_head : OfUpgrade text c upgrading_upsert (campaign_row_values (campaign_row_of c) text)
 
--- The statements of a join: put the campaign row, the faction, its unit, its report, and two amounts of the books.
--- The unit is the one that came last; the amounts are those of money and people under joining.
+-- The statements of the join of the faction with the number `faction`: put the campaign row, the faction, its unit,
+-- which came last, and its report, and write the amounts of money and of people under joining (`OfAmount`).
 pub data OfJoining (faction : ℕ) (c : CampaignValue) : List ℕ → Row → Type 0 where
   -- the campaign row is put; a row that is there keeps its world text
   joins_head : OfJoining faction c campaign_upsert (campaign_row_values (campaign_row_of c) [])

@@ -63,12 +63,12 @@ RowsOf {V} line m r = (n : ℕ) × (v : V) × (get m n ≡ Some v) × (r ≡ lin
 abbrev pub rows_in_order : {V : Type 0} → (ℕ → V → Row) → List (ℕ × V) → List Row
 rows_in_order line entries = map (λ e. line e.0 e.1) entries
 
--- what a unit's holding has of a kind of goods, by number: amounts of items, or days of skills
+-- what a unit holds of one kind, by number: amounts of items, or days of skills
 abbrev pub things_of : ThingKind → HoldingValue → FinMap nat_cmp ℕ
 things_of Item held = held.items
 things_of Skill held = held.days
 
--- what a unit has of a kind of goods (items or skills), by number; nothing if there is no unit
+-- what a unit has of one kind (items or skills), by number; nothing if there is no unit
 abbrev pub things_under : ThingKind → Option Unit → FinMap nat_cmp ℕ
 things_under Item = items_under
 things_under Skill = days_under

@@ -32,6 +32,7 @@ pub(crate) trait AmountWriter: Copy {
             tx.new.conn };
 }
 
+/// Puts the row of an amount that isn't 0, and does nothing for 0.
 fn put_nonzero<O: AmountWriter, S: Alter>(
     tx: &mut Transaction<'_, S>,
     owner: O,

@@ -1,4 +1,4 @@
-//! Writes what is marked of a campaign.
+//! Writes what is marked of a campaign, in one transaction: the campaign row, then the other parts.
 ghost use Rattle.std.specs.Prelude.{◌≡◌, ◌≤◌, false};
 ghost use Rattle.atl_records.specs.Limits.{most_things};
 ghost use Rattle.atl_writing.specs.Changing.{WritesChanges};
@@ -11,6 +11,8 @@ use crate::write_parts::{OtherParts, WrittenPart};
 use atl_campaign::Campaign;
 use sqlite::{Alter, Connection, Error, Transaction};
 
+/// Writes all that is marked, if the table `campaign` has one row, of the second format. The books
+/// may have no more things than a world can have.
 fn rewrite_parts<S: Alter>(tx: &mut Transaction<'_, S>, campaign: &Campaign) -> Result<(), Error>
     requires { campaign.now.value.books.things ≤ most_things }
     ensures { Writes S.Store (OfChange campaign.now.value)

@@ -1,4 +1,4 @@
-//! Makes the tables and writes the rows of a whole campaign into them.
+//! Makes the ten tables, where there was no table, and writes a whole campaign and its world text.
 ghost use Rattle.std.specs.Prelude.{◌≡◌, ◌≤◌, false};
 ghost use Rattle.atl_records.specs.Limits.{most_things};
 ghost use Rattle.atl_writing.specs.OwnStatements.{OfFounding};
@@ -12,6 +12,7 @@ use atl_campaign::Campaign;
 use atl_sql::tables::create_tables;
 use sqlite::{Alter, Connection, Error, Transaction};
 
+/// Fills a database that has no table. The books may have no more things than a world can have.
 fn put_founding<S: Alter>(
     tx: &mut Transaction<'_, S>,
     text: &str,

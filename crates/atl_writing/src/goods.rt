@@ -1,4 +1,4 @@
-//! Writes what units have into the table `has`: a row for each item and each skill of a unit whose
+//! Writes units' goods into the table `has`: a row for each item and each skill of a unit whose
 //! amount is not 0. Each call is a step of a transaction on the ten tables and a clean disk; an
 //! error is the database's.
 ghost use Rattle.std.specs.Prelude.{refl};

@@ -1,5 +1,6 @@
-//! Rewrites all rows that a unit or a region has in a table: they are deleted and put again. Each
-//! write is a step of a transaction on the ten tables and a clean disk; an error is the database's.
+//! Rewrites all rows of a unit's goods (items and skills) or of a region's stocks: deletes them and
+//! puts them again. Each write is a step of a transaction on the ten tables and a clean disk; an
+//! error is the database's.
 ghost use Rattle.std.specs.Prelude.{◌≡◌, ℕ, suc, List, [], ◌∷◌};
 ghost use Rattle.std.specs.Ordering.{nat_cmp};
 ghost use Rattle.std.specs.FinSet.{FinSet};
@@ -22,7 +23,7 @@ use atl_world::MarkedNumbers;
 use sqlite::{Alter, Error, Transaction};
 
 /// A unit or a region: it has its own row and, in another table, rows whose key begins with its
-/// number, for its items and skills, or for its stocks.
+/// number, for its goods, or for its stocks.
 pub(crate) trait Grouped: NumberedRow {
     // The part whose table has the rows.
     ghost part: { Part };

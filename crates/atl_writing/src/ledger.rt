@@ -18,7 +18,7 @@ use atl_rows::parts::StoredBooks;
 use atl_sql::rows::{put, take_out};
 use sqlite::{Alter, Error, Transaction, params};
 
-/// Entry and thing are given by their numbers, as the row has them.
+/// Puts the row of an amount, also of 0. Entry and thing are given by the numbers in the row.
 fn put_booked<S: Alter>(
     tx: &mut Transaction<'_, S>,
     entry: u32,
@@ -69,6 +69,7 @@ pub fn write_amount<S: Alter>(
     put_booked(tx, entry.number(), thing.number(), amount)
 }
 
+/// Puts a thing's amounts, but none of 0, under these entries. The thing has to be of the books.
 fn put_entries<S: Alter>(
     tx: &mut Transaction<'_, S>,
     campaign: &Campaign,
@@ -122,6 +123,7 @@ fn rewrite_amount<S: Alter>(
     Ok(())
 }
 
+/// Writes a thing's marked amounts under these entries. The thing has to be of the books.
 fn rewrite_entries<S: Alter>(
     tx: &mut Transaction<'_, S>,
     campaign: &Campaign,

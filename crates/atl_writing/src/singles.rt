@@ -50,6 +50,7 @@ pub(crate) trait SingleAmounts: Copy {
 }
 
 /// Writes the amounts that this owner has of the things `numbers`, whether they are marked or not.
+/// `finds` has to choose rows by the numbers of owner and thing (`FindsByNumbers`).
 fn rewrite_amounts_of_owner<A: SingleAmounts, S: Alter>(
     tx: &mut Transaction<'_, S>,
     campaign: &Campaign,

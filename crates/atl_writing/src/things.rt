@@ -1,5 +1,5 @@
-//! Writes the single items and skills of units that are marked, row by row, into the table `has`.
-//! Each write is a step of a transaction on the ten tables and a clean disk.
+//! Writes the marked single items and skills of units, row by row, into the table `has`. Each write
+//! is a step of a transaction on the ten tables and a clean disk; an error is the database's.
 ghost use Rattle.std.specs.Prelude.{◌≡◌};
 ghost use Rattle.atl_writing.specs.Rows.{HasRowsOf, amount_under};
 ghost use Rattle.atl_writing.specs.OwnStatements.{OfChange};

@@ -1,4 +1,4 @@
-//! Writes what an upgrade changes: the table `market`, and the campaign row.
+//! Writes what an upgrade changes, in one transaction: the table `market`, and the campaign row.
 ghost use Rattle.std.specs.Prelude.{◌≡◌, false};
 ghost use Rattle.atl_sql.specs.Inside.{DoesInside};
 ghost use Rattle.atl_writing.specs.OwnStatements.{OfUpgrade};
@@ -10,6 +10,7 @@ use atl_campaign::Campaign;
 use atl_sql::tables::create_market;
 use sqlite::{Alter, Connection, Error, Transaction};
 
+/// Upgrades a database of the first format, if its tables hold `campaign`, which has no stocks.
 fn put_upgrade<S: Alter>(
     tx: &mut Transaction<'_, S>,
     text: &str,

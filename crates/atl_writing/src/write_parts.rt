@@ -56,7 +56,7 @@ pub(crate) trait WrittenPart {
     ghost parts: { List Part };
 
     /// Puts all rows of the type's parts into their tables. A table that was empty then has exactly
-    /// these rows.
+    /// these rows. The tables of all other parts stay.
     fn fill<S: Alter>(tx: &mut Transaction<'_, S>, campaign: &Campaign) -> Result<(), Error>
         requires { campaign.now.value.books.things ≤ most_things }
         ensures { Writes S.Store (OfRow campaign.now.value)
@@ -64,7 +64,7 @@ pub(crate) trait WrittenPart {
             tx.new.conn };
 
     /// Puts the marked rows of the type's parts, and deletes the marked rows that the campaign
-    /// lacks.
+    /// lacks. All other rows stay.
     fn rewrite<S: Alter>(tx: &mut Transaction<'_, S>, campaign: &Campaign) -> Result<(), Error>
         requires { campaign.now.value.books.things ≤ most_things }
         ensures { Writes S.Store (OfChange campaign.now.value)

@@ -1,7 +1,7 @@
 //! Puts the rows of items, days of study and stocks into their units and regions. Of rows for one
 //! amount the last counts, and a number that doesn't fit 32 bits is read as the largest. The rows
-//! of items and days have to be in their ranges. Where memory runs out, the answer is AllocError,
-//! and nothing is said of the units and regions then.
+//! of items and days have to be in their ranges. A row of a unit or region that isn't there is left
+//! out. Where memory runs out, the answer is AllocError, and nothing is said of units and regions.
 ghost use Rattle.std.specs.Prelude.{◌≡◌, OnOk, true};
 ghost use Rattle.std.specs.List.{list_all};
 ghost use Rattle.atl_world.specs.Sums.{with_changed_value};
@@ -17,7 +17,6 @@ use atl_rows::parts::{StoredHas, StoredMarket};
 use atl_world::Numbered;
 use std::alloc::AllocError;
 
-/// A row of a unit that isn't there is left out.
 fn put_thing(units: &mut Arena<Unit>, row: &StoredHas) -> Result<(), AllocError>
     requires { has_in_range row.now ≡ true }
     ensures { OnOk result (units.new
@@ -45,7 +44,6 @@ pub(super) fn put_things(units: &mut Arena<Unit>, rows: &[StoredHas]) -> Result<
     Ok(())
 }
 
-/// A row of a region that isn't there is left out.
 fn put_stock(regions: &mut Numbered<Region>, row: &StoredMarket) -> Result<(), AllocError>
     ensures { OnOk result (regions.new
         ≡ with_changed_value (with_market_row row.now) regions.old (as_u32 row.now.region)) }

@@ -22,6 +22,7 @@ use atl_records::{Books, BooksEntry, ENTRY_COUNT, FIRST_ITEM, Region, Thing};
 use atl_world::{Marks, Numbered, RegionPlan, Text, World};
 use std::alloc::{AllocError, Global};
 
+/// The planned regions as they are founded, with nothing in stock and nothing marked.
 fn make_regions(alloc: Global, plans: &Numbered<RegionPlan>) -> Result<Regions, AllocError>
     ensures { IfOk result (λ regions. regions
         ≡ unmarked_regions (map_values founded_region plans.now)) }

@@ -1,5 +1,5 @@
-//! Lets a faction join. Where memory runs out, the private calls answer AllocError. See
-//! docs/RULES.md, "Joining".
+//! Lets a faction join. Where memory runs out, the private calls answer AllocError. Names and pass
+//! texts have to be UTF-8. See docs/RULES.md, "Joining".
 ghost use Rattle.std.specs.Prelude.{◌≡◌, ◌≤◌, ◌<◌, ◌++◌, IsTrue, IfOk, OnOk, OnErr, codes, false, nat_eq, pos};
 ghost use Rattle.std.specs.Cmp.Lexicographic.{pointwise};
 ghost use Rattle.std.specs.FinMap as map;
@@ -38,6 +38,7 @@ fn is_taken(factions: &MarkedMap<Faction>, name: &[u8]) -> bool
     false
 }
 
+/// The number of the region where a faction begins, which the word of the dice picks.
 fn home(world: &World, word: u32) -> u32
     ensures { result ≡ home_of world.now word }
 {
@@ -45,7 +46,8 @@ fn home(world: &World, word: u32) -> u32
     land[word as usize % land.len()]
 }
 
-/// One man with the money, named `Unit` and the number, inside no structure and without goods.
+/// A unit of one man with the money, at most 999,999,999, and the name `Unit` with its number. It
+/// is inside no structure, has no items or days of study, and its guard flag is clear.
 fn make_unit(
     alloc: Global,
     number: u32,
@@ -156,9 +158,9 @@ impl Campaign {
         }
     }
 
-    /// Adds the faction and its unit, booked and marked, and returns their numbers. The campaign
-    /// has to be sound, with a unit number left, and both texts UTF-8. After AllocError nothing has
-    /// changed.
+    /// Adds the faction and its unit, booked and marked, and returns their numbers. The word of the
+    /// dice picks the unit's region. The campaign has to be sound, with a unit number left, and the
+    /// texts UTF-8. The world keeps its rules (`world`). After AllocError nothing has changed.
     fn enroll(
         &mut self,
         world: &World,

@@ -26,7 +26,7 @@ impl Campaign {
         self.row_marked = true;
     }
 
-    /// Sets the shown name of a faction, if there is such a faction, and marks the faction.
+    /// Sets the name of a faction, not the one that it joined under, and marks the faction.
     pub fn set_faction_name(&mut self, number: u32, name: Text)
         ensures what { self.new.value ≡ with_faction_name self.old.value number name }
         ensures marks { self.new.marks ≡ mark_faction self.old number }
@@ -36,7 +36,7 @@ impl Campaign {
         }
     }
 
-    /// Sets the flag `gone` of a faction, if there is such a faction, and marks the faction.
+    /// Sets the flag `gone` of a faction, and marks the faction.
     pub fn set_gone(&mut self, number: u32)
         ensures what { self.new.value ≡ with_gone self.old.value number }
         ensures marks { self.new.marks ≡ mark_faction self.old number }

@@ -1,5 +1,5 @@
-//! The table `campaign`, whose one row is the campaign row: how it is put, if the database has the
-//! tables of a campaign (`HasTables`) and a clean disk, and how it is read.
+//! The table `campaign`, whose one row is the campaign row: how it is read, and how put, if there
+//! are a campaign's tables (`HasTables`) and a clean disk. Err of a put has the statement's error.
 ghost use Rattle.std.specs.Prelude.{◌≡◌, false};
 ghost use Rattle.atl_descriptions.specs.Tables.{campaign_table};
 ghost use Rattle.atl_sql.specs.Written.{head_shown};

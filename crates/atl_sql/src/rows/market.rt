@@ -1,5 +1,5 @@
-//! The table `market`: how all rows of a region are deleted. It is said of databases with the
-//! tables of a campaign (`HasTables`) on a clean disk.
+//! The table `market`: how all rows of a region are deleted, if there are a campaign's tables
+//! (`HasTables`) and a clean disk. Err has the statement's error.
 ghost use Rattle.std.specs.Prelude.{[], ◌∷◌};
 ghost use Rattle.atl_descriptions.specs.Tables.{market_table};
 ghost use Rattle.atl_sql.specs.Shown.{int};

@@ -1,4 +1,5 @@
-//! Reads all rows of a table with a SELECT, each as its record.
+//! Reads all rows of a table with a SELECT, each as its record. What a read gives and leaves holds
+//! on a clean disk, for a connection that was in no transaction.
 ghost use Rattle.std.specs.Prelude.{◌≡◌, ◌≢◌, ◌++◌, [], ◌∷◌, List, None, map, length, false, true, IfOk, IfErr, IfSome};
 ghost use Rattle.sqlite.specs.Given.{IsPlain};
 ghost use Rattle.sqlite.specs.Listing.{understood};
@@ -30,7 +31,7 @@ pub trait Stored: Drop + Sized {
     // The part of a campaign that the table is of.
     ghost part: { Part };
 
-    /// Reads a row that SQL shows; None if a value is of another form than its column.
+    /// Reads the first values of a row, one for each form; None if one isn't of its column's form.
     fn from_row(alloc: Global, row: &Row) -> Result<Option<Self>, AllocError>
         ensures ok { IfOk result
             (λ read. IfSome read (λ stored. shown stored ≡ first_columns (length forms) row.now)) }
@@ -164,7 +165,7 @@ fn stream<T: Stored, S: Alter>(
     Ok(None)
 }
 
-/// The rows are parsed after all of them have come.
+/// Gives all rows that the SELECT `sql` shows, parsed after all of them have come.
 fn read_inside<T: Stored, S: Alter>(
     alloc: Global,
     conn: &mut Connection<S>,

@@ -1,5 +1,5 @@
-//! How a row of a record's table is put, and deleted by its key. It is said of databases with the
-//! tables of a campaign (`HasTables`) on a clean disk. All other rows and tables stay.
+//! How a row of a record's table is put, and deleted by its key, if there are a campaign's tables
+//! (`HasTables`) and a clean disk. Other rows and tables stay. Err has the statement's error.
 ghost use Rattle.std.specs.Prelude.{◌≡◌, [], ◌∷◌, true};
 ghost use Rattle.sqlite.specs.Values.{bound};
 ghost use Rattle.atl_descriptions.specs.Tables.{IsNumberedPart, key_width_of, table_of};

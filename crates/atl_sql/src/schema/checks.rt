@@ -45,6 +45,7 @@ fn is_one(node: Option<&Op>) -> bool
     matches!(node, Some(Op::Literal(Value::Int(1))))
 }
 
+/// Whether the term of the node `root` is `id = 1`.
 fn has_number_one(nodes: &[Op], root: usize) -> bool
     ensures { IsTrue result ↔
         (term_in nodes.now root ≡ op2 (Compare Eq Binary) (col 1 0) (lit (Int (pos 1)))) }

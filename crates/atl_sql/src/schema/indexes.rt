@@ -49,6 +49,7 @@ fn is_index_of<R: Record>(found: &Index) -> bool
     }
 }
 
+/// Whether `found` is the index at this position among the four of the campaign's unique keys.
 fn is_key_index(found: &Index, position: usize) -> bool
     ensures { IsTrue result ↔ (slice_get all_indexes position ≡ Some found.now) }
 {

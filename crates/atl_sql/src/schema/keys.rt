@@ -1,5 +1,5 @@
-//! Compares the keys of a table of a schema with those of a campaign's table: the row's number, or
-//! several columns.
+//! Compares the keys of a table of a schema, `found`, with those of a campaign's table, `made`: the
+//! row's number, or several columns. The sort order `plain` has all columns ascending.
 ghost use Rattle.std.specs.Prelude.{◌≡◌, [], ◌∷◌, map, ◌↔◌, IsTrue};
 ghost use Rattle.sqlite_value.specs.Keys.{plain};
 ghost use Rattle.atl_descriptions.specs.Described.{unique_columns};

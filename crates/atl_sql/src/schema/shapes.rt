@@ -37,6 +37,7 @@ fn has_nothing_more(found: &Table) -> bool
         && !found.is_counted
 }
 
+/// Whether the only check is `id = 1`, of a table with a single row, or else there is none.
 fn has_check(checks: &Terms, is_single: bool) -> bool
     ensures { IsTrue result ↔ (checks.now ≡ checks_of is_single) }
 {
@@ -47,7 +48,7 @@ fn has_check(checks: &Terms, is_single: bool) -> bool
     }
 }
 
-/// Compares all but the columns.
+/// Whether `found` is the table that `made` describes, whatever its columns are.
 fn is_described(found: &Table, made: &Description) -> bool
     ensures { IsTrue result ↔
         (found.now ≡ table made.now.tree made.now.name.now found.now.columns made.now.number

@@ -1,4 +1,5 @@
-//! Rule 6: days of study. See docs/RULES.md, "Levels and loads".
+//! Rule 6: a unit has at least 1 day of each skill that is listed of it, and at most 450 for each
+//! of its men. See docs/RULES.md, "Levels and loads".
 ghost use Rattle.std.specs.Prelude.{◌≤◌, ◌*◌, ◌↔◌, IsTrue};
 ghost use Rattle.atl_world.specs.Every.{Every};
 ghost use Rattle.atl_campaign.specs.Good.{AreDays};

@@ -1,5 +1,5 @@
 //! Rule 10: at most one faction guards a region. It is checked region by region, which needs the
-//! region of each unit to be there (rule 4). A region's holder is the faction that guards it.
+//! region of each unit to be there (rule 4). A region's holder, if any, is the faction guarding it.
 ghost use Rattle.std.specs.Prelude.{◌≡◌, None, ◌↔◌, IsTrue};
 ghost use Rattle.atl_state.specs.Deciding.{agree, guard_of, one_holder};
 ghost use Rattle.atl_world.specs.Every.{Every, HasValue};

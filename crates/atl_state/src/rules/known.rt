@@ -1,5 +1,5 @@
 //! Rule 4 on a campaign: its regions are the world's, and all that it names by number is known,
-//! which means that it exists.
+//! which means that it exists. Calls named after stocks also test that regions are the world's.
 ghost use Rattle.std.specs.Prelude.{◌≡◌, ◌≢◌, ◌<◌, ◌↔◌, ℕ, IsSome, Some, length, IsTrue};
 ghost use Rattle.std.specs.FinMap as map;
 ghost use Rattle.atl_world.specs.ByNumber.{market_of};
@@ -110,7 +110,7 @@ fn holds_known(world: &World, holding: &Holding) -> bool
         && are_below(holding.days(), world.skills().len())
 }
 
-/// A unit with structure 0 is inside none, and passes.
+/// Whether the structure that the unit is inside, unless 0 (none), is there, in the unit's region.
 fn is_inside_here(campaign: &Campaign, unit: &Unit) -> bool
     ensures { IsTrue result ↔
         (unit.now.structure ≢ 0
@@ -135,6 +135,7 @@ fn has_known_faction_and_region(campaign: &Campaign, unit: &Unit) -> bool
     is_faction(campaign, unit.faction) && is_region(campaign, unit.region)
 }
 
+/// Whether the unit's structure, unless 0 (none), is in its region, and its items and skills exist.
 fn has_known_goods_and_structure(world: &World, campaign: &Campaign, unit: &Unit) -> bool
     ensures { IsTrue result ↔
         ((unit.now.structure ≢ 0

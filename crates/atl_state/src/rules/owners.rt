@@ -29,7 +29,7 @@ fn are_owners_inside(campaign: &Campaign) -> bool
     campaign.structures().all(|(number, structure)| is_owner_inside(campaign, number, structure))
 }
 
-/// A structure that isn't there counts as one with an owner.
+/// Whether the structure that the unit is inside has an owner; one that isn't there passes.
 fn is_with_owner(campaign: &Campaign, unit: &Unit) -> bool
     ensures { IsTrue result ↔
         ((s : builds.Structure) → map.get campaign.now.value.structures unit.now.structure ≡ Some s
@@ -41,6 +41,7 @@ fn is_with_owner(campaign: &Campaign, unit: &Unit) -> bool
     }
 }
 
+/// Whether each structure that has a unit inside has an owner.
 fn are_with_owners(campaign: &Campaign) -> bool
     ensures { IsTrue result ↔
         (Every (λ m u. (s : builds.Structure)

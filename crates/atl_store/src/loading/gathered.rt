@@ -1,4 +1,5 @@
-//! Reads all rows of several tables, and tests that the rowids of a table differ.
+//! Reads all rows of several tables, and tests that the rowids of a table differ. A read needs a
+//! connection in no transaction, with all committed; what it gives is promised on a clean disk.
 ghost use Rattle.std.specs.Prelude.{◌≡◌, ◌++◌, ℕ, false, [], ◌∷◌, List, map, refl, Ok, Err, if◌then◌else◌, IfOk, IfErr, ◌↔◌, IsTrue};
 ghost use Rattle.std.proofs.Common.{ap, ◌∙◌};
 ghost use Rattle.std.proofs.lemmas.List.{map-append};

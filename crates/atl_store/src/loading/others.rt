@@ -1,4 +1,5 @@
-//! Reads all tables but `campaign`, and puts the rows of all tables together.
+//! Reads all tables but `campaign`, and puts the rows of all tables together. A read needs a
+//! connection in no transaction, with all committed; what it gives is promised on a clean disk.
 ghost use Rattle.std.specs.Prelude.{◌≡◌, false, IfOk, IfErr};
 ghost use Rattle.sqlite.specs.Held.{state};
 ghost use Rattle.atl_store.specs.Gathering.{IsCommitted, AreOfFormat, ReadsSome, FailsWithout, AllHaveDistinctRowids, IsMadeOf};
@@ -42,7 +43,8 @@ type SecondFormatRows = Vec<RowWithId<StoredMarket>>;
 /// The rows of all tables but `campaign`, in the order in which the tables are made.
 pub(crate) type OtherRows = (FirstFormatRows, SecondFormatRows);
 
-/// None if a value is of another type than its column. Parts that the format lacks have no rows.
+/// Reads all rows of the format's tables but `campaign`; None if a value is of another type than
+/// its column. Parts that the format lacks have no rows.
 pub(crate) fn read_others<S: Alter>(
     alloc: Global,
     conn: &mut Connection<S>,

@@ -39,7 +39,7 @@ fn only_row(mut rows: Vec<StoredCampaign>) -> Option<StoredCampaign>
     if rows.is_empty() { last } else { None }
 }
 
-/// A world of the first format has no markets.
+/// Reads the text as a world of the format; one of the first format has no markets.
 fn world_by(alloc: Global, text: &str, format: Format) -> Result<World, WorldFault>
     ensures { Reads (λ w. w) result (world_of_text format text.now) }
 {
@@ -128,7 +128,8 @@ fn judge_format(
 }
 
 /// Reads the one campaign row, which has to keep the first rule, and its world. That the row is of
-/// the other format is tested before the types of its values.
+/// the other format is tested before the types of its values. All is committed before, `conn` is in
+/// no transaction, and what is read is promised on a clean disk.
 pub(crate) fn read_own<S: Alter>(
     alloc: Global,
     conn: &mut Connection<S>,
