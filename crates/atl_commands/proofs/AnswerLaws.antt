@@ -10,7 +10,7 @@ use Rattle.sqlite.specs.State.{State}
 use Rattle.atl_world.specs.Worlds.{WorldValue}
 use Rattle.atl_campaign.specs.Campaign.{CampaignValue}
 use Rattle.atl_campaign.specs.Good.{IsGood}
-use Rattle.atl_store.specs.Keeps.{LeavesAfterFault}
+use Rattle.atl_keeping.specs.Keeps.{LeavesAfterFault}
 use Rattle.atl_commands.specs.declared.command.Command.{Command}
 use Rattle.atl_commands.specs.declared.command.Answer.TheVariants.{Refused}
 use Rattle.atl_commands.specs.declared.command.Refusal.{Refusal}

@@ -11,10 +11,10 @@ use Rattle.sqlite.specs.State.{HasCleanDisk}
 use Rattle.atl_descriptions.specs.Statements.{Statements}
 use Rattle.atl_sql.specs.Causes.{IsFaultOfError}
 use Rattle.atl_sql.specs.Errors.{is_memory}
-use Rattle.atl_store.specs.Faults.{create_fault, write_fault}
-use Rattle.atl_store.specs.declared.fault.CreateFault.TheVariants as create
-use Rattle.atl_store.specs.declared.fault.WriteFault.{WriteFault}
-use Rattle.atl_store.specs.declared.fault.WriteFault.TheVariants as write
+use Rattle.atl_keeping.specs.Faults.{create_fault, write_fault}
+use Rattle.atl_keeping.specs.declared.fault.CreateFault.TheVariants as create
+use Rattle.atl_keeping.specs.declared.fault.WriteFault.{WriteFault}
+use Rattle.atl_keeping.specs.declared.fault.WriteFault.TheVariants as write
 use Rattle.atl_commands.specs.Answering.{fault_of_write}
 use Rattle.atl_commands.specs.Causes.{GivesError, HasCause}
 

@@ -11,7 +11,7 @@ use Rattle.atl_campaign.specs.Good.{IsGood}
 use Rattle.atl_campaign.specs.Joining.{join_of, after_join, name_taken, is_full, new_faction, first_unit}
 use Rattle.atl_report.specs.Report.{report_of}
 use Rattle.atl_report.specs.Sight.{view_of}
-use Rattle.atl_store.specs.Keeps.{IsJoining}
+use Rattle.atl_keeping.specs.Keeps.{IsJoining}
 use Rattle.atl_writing.specs.Arriving.{HasArrival}
 use Rattle.atl_commands.specs.declared.command.Command.TheVariants.{Join}
 use Rattle.atl_commands.specs.declared.command.Answer.TheVariants.{Joined, Refused}

@@ -14,8 +14,8 @@ use Rattle.sqlite.specs.Held.{state}
 use Rattle.sqlite.specs.State.{State, HasCleanDisk}
 use Rattle.atl_world.specs.Worlds.{WorldValue}
 use Rattle.atl_campaign.specs.Campaign.{CampaignValue}
-use Rattle.atl_store.specs.Keeps.{HoldsCampaign, IsLater, Keeps}
-use Rattle.atl_store.proofs.WorldTextLaws.{world_text_is}
+use Rattle.atl_keeping.specs.Keeps.{HoldsCampaign, IsLater, Keeps}
+use Rattle.atl_keeping.proofs.WorldTextLaws.{world_text_is}
 use Rattle.atl_commands.specs.declared.command.Command.{Command}
 use Rattle.atl_commands.specs.declared.command.Answer.{Answer}
 use Rattle.atl_commands.specs.declared.command.Answer.TheVariants.{Joined, Mailed, MonthDone, Text, Refused, Fault}

@@ -10,15 +10,15 @@ use Rattle.sqlite.specs.Held.{Held, state}
 use Rattle.atl_tables.specs.World.{world_of}
 use Rattle.atl_world.specs.Worlds.{WorldValue}
 use Rattle.atl_campaign.specs.Campaign.{CampaignValue}
-use Rattle.atl_store.specs.Keeps.{Keeps}
-use Rattle.atl_store.proofs.WorldTextLaws.{world_text_is}
+use Rattle.atl_keeping.specs.Keeps.{Keeps}
+use Rattle.atl_keeping.proofs.WorldTextLaws.{world_text_is}
 use Rattle.atl_commands.specs.declared.command.Command.{Command}
 use Rattle.atl_commands.specs.declared.command.Answer.{Answer}
 use Rattle.atl_commands.specs.declared.command.Fault.{Fault as Failure}
 use Rattle.atl_commands.specs.declared.command.Answer.TheVariants.{Joined, Mailed, MonthDone, Text, Refused, Fault}
-use Rattle.atl_store.specs.declared.fault.WriteFault.{WriteFault}
-use Rattle.atl_store.specs.declared.fault.WriteFault.TheVariants as write
-use Rattle.atl_store.specs.Keeps.{HoldsCampaign}
+use Rattle.atl_keeping.specs.declared.fault.WriteFault.{WriteFault}
+use Rattle.atl_keeping.specs.declared.fault.WriteFault.TheVariants as write
+use Rattle.atl_keeping.specs.Keeps.{HoldsCampaign}
 use Rattle.atl_commands.specs.Service.{ServiceValue, text_in, IsConsistent}
 use Rattle.atl_commands.specs.Answering.{Answers, CommandLeavesAfterFault, LeavesIdle, fault_of_write}
 use Rattle.atl_commands.specs.Causes.{OfCommand, HasCause}

@@ -11,9 +11,9 @@ use Rattle.atl_words.specs.declared.mail_fault.MailFault.TheVariants as mail
 use Rattle.atl_campaign.specs.Campaign.{CampaignValue, MarkedCampaign}
 use Rattle.atl_campaign.specs.Good.{IsGood}
 use Rattle.atl_campaign.specs.Marks.{no_marks}
-use Rattle.atl_store.specs.Keeps.{Keeps, IsLater, LeavesOthersAlone}
-use Rattle.atl_store.specs.declared.fault.WriteFault.{WriteFault}
-use Rattle.atl_store.specs.declared.fault.WriteFault.TheVariants as write
+use Rattle.atl_keeping.specs.Keeps.{Keeps, IsLater, LeavesOthersAlone}
+use Rattle.atl_keeping.specs.declared.fault.WriteFault.{WriteFault}
+use Rattle.atl_keeping.specs.declared.fault.WriteFault.TheVariants as write
 use Rattle.atl_commands.specs.declared.answering.MailError.{MailError}
 use Rattle.atl_commands.specs.declared.answering.MailError.TheVariants as unkept
 use Rattle.atl_commands.specs.declared.command.Command.{Command}

@@ -13,7 +13,7 @@ use Rattle.atl_campaign.specs.Founding.{founded_of}
 use Rattle.atl_campaign.specs.Campaign.{CampaignValue}
 use Rattle.atl_sql.specs.Causes.{Gives}
 use Rattle.atl_sql.specs.Errors.{is_memory}
-use Rattle.atl_store.specs.Keeps.{Keeps}
+use Rattle.atl_keeping.specs.Keeps.{Keeps}
 use Rattle.atl_descriptions.specs.Statements.{Statements}
 use Rattle.atl_writing.specs.OwnStatements.{OfChange, OfFounding, OfJoining, OfMail}
 use Rattle.atl_commands.specs.declared.command.Command.{Command}

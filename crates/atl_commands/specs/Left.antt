@@ -5,7 +5,7 @@ use Rattle.sqlite.specs.State.{State}
 use Rattle.atl_world.specs.Worlds.{WorldValue}
 use Rattle.atl_campaign.specs.Campaign.{CampaignValue}
 use Rattle.atl_campaign.specs.Good.{IsGood}
-use Rattle.atl_store.specs.Keeps.{LeavesAfterFault, Stores}
+use Rattle.atl_keeping.specs.Keeps.{LeavesAfterFault, Stores}
 
 -- After a fault the tables, while the connection is open, hold the campaign `before`, which is good. The connection is
 -- shut only if the disk failed again. A crash leaves this campaign or the campaign `after`, and leaves `after` only if

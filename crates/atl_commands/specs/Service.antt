@@ -11,8 +11,8 @@ use Rattle.atl_tables.specs.World.{world_of}
 use Rattle.atl_campaign.specs.Campaign.{CampaignValue, MarkedCampaign, campaign_code}
 use Rattle.atl_campaign.specs.Marks.{no_marks}
 use Rattle.atl_campaign.specs.Good.{IsGood}
-use Rattle.atl_store.specs.Keeps.{HoldsCampaign}
-use Rattle.atl_store.specs.WorldText.{world_text}
+use Rattle.atl_keeping.specs.Keeps.{HoldsCampaign}
+use Rattle.atl_keeping.specs.WorldText.{world_text}
 
 -- the value of a service: the connection to the database, the world, and the campaign while the service is open, else
 -- None

@@ -13,7 +13,7 @@ use crate::command::{Answer, Command, Refusal};
 use crate::reporting::store_first_report;
 use atl_campaign::{Campaign, Faction, JoinFault};
 use atl_orders::{MailFault, Mailing, read_mailing};
-use atl_store::{WriteFault, write_join, write_mail};
+use atl_keeping::{WriteFault, write_join, write_mail};
 use atl_world::{Sequence, Text, World, name_ok, pass_ok};
 use sqlite::{Alter, Connection};
 use std::alloc::{AllocError, Global};

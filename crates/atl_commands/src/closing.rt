@@ -19,7 +19,7 @@ use crate::reporting::{MonthResult, report_to_all};
 use atl_campaign::{Campaign, LAST_MONTH};
 use atl_month::close_month;
 use atl_orders::{FaultyLine, MailFault, Mailing, read_mailing};
-use atl_store::{WriteFault, write_changes};
+use atl_keeping::{WriteFault, write_changes};
 use atl_world::{Numbered, Sequence, World};
 use sqlite::{Alter, Connection};
 use std::alloc::{AllocError, Global};

@@ -55,7 +55,7 @@ impl<S: Alter> Model for Service<S> {
 impl<S: Alter> Service<S> {
     ghost use Rattle.atl_campaign.specs.Good.{IsGood};
     ghost use Rattle.atl_campaign.specs.Marks.{no_marks};
-    ghost use Rattle.atl_store.specs.Keeps.{HoldsCampaign, IsLater, LeavesOthersAlone};
+    ghost use Rattle.atl_keeping.specs.Keeps.{HoldsCampaign, IsLater, LeavesOthersAlone};
     ghost use Rattle.std.specs.Prelude.{Some, true};
     ghost use Rattle.atl_commands.specs.Service.{IsService, text_in};
     ghost use Rattle.atl_commands.specs.Runs.{Runs, RunsAll, HeadlineAt};

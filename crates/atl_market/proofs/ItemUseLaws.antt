@@ -135,7 +135,7 @@ put_to a k = omega (arith, ints)
 
 -- `k` is how many of item `i` unit `n` uses or makes, and `m` is the number of another unit
 module _ (w : WorldValue) (c : CampaignValue) (n i k : ℕ) where
-  -- where the unit is there, using `k` of item `i` sets the unit's amount of it, and books `k` as used
+  -- where the unit is there, using `k` of item `i` takes `k` off the unit's amount of it, and books `k` as used
   pub used_is : (u : Unit) → get c.units n ≡ Some u
       → with_used c n i k
       ≡ with_booking (item_held c n u i (amount_of u.holding.items i - k)) entries.Used (Item i) (neg_ℤ (pos k))
@@ -144,7 +144,7 @@ module _ (w : WorldValue) (c : CampaignValue) (n i k : ℕ) where
       ∙ ap (λ d. with_booking d entries.Used (Item i) (neg_ℤ (pos k)))
       (item_is c n u i (amount_of u.holding.items i - k) is)
 
-  -- where the unit is there, making `k` of item `i` sets the unit's amount of it, and books `k` as made
+  -- where the unit is there, making `k` of item `i` adds `k` to the unit's amount of it, and books `k` as made
   pub made_is : (u : Unit) → get c.units n ≡ Some u
       → with_made c n i k
       ≡ with_booking (item_held c n u i (amount_of u.holding.items i + k)) entries.Made (Item i) (pos k)

@@ -72,8 +72,8 @@ room_for_second j k w c d well room e t =
 abbrev pub counted_month : CampaignValue → ℕ × FinMap nat_cmp (List ℕ)
 counted_month c = (c.month, c.reports)
 
--- campaigns with the same month last closed, the same reports and as many factions are of the same month
--- (`IsSameMonth`), if no faction is added
+-- campaign d, which came of c, is of the same month (`IsSameMonth`) if it has the same month last closed, the same
+-- reports, as many factions, and no faction that c lacks
 pub same_month_among : {c d : CampaignValue} → counted_month d ≡ counted_month c → len d.factions ≡ len c.factions
     → ((n : ℕ) → HasValue d.factions n → HasValue c.factions n) → IsSameMonth c d
 same_month_among {c} {d} same count factions = record {

@@ -54,7 +54,8 @@ module _ (is_of : Verb → Bool) (aliases : Aliases) (ms : List Mailing) (at : �
       ap (λ es. filter is_wanted (tasks_from aliases read.faction i (map (entry_value read.text) es)))
       (drop_more read.entries i no_entry h)
 
-  -- the list has the indices of `old`, and then those of the orders that count before index i of the mailing
+  -- The list names the orders that `old` names, and then those that count before index i of the mailing. If all indices
+  -- of `old` are there (`IsThere`), so are all of the list.
   pub record Added (old : List OrderIndex) (i : ℕ) (list : List OrderIndex) : Type 0 where
     pub there : All (IsThere ms) old → All (IsThere ms) list
     -- the orders that `list` names, and then those that count from index i on, are those of `old` and all that count

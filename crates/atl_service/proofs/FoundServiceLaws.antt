@@ -14,13 +14,13 @@ use Rattle.atl_campaign.specs.Campaign.{CampaignValue}
 use Rattle.atl_campaign.specs.Founding.{founded_of}
 use Rattle.atl_campaign.specs.Good.{IsGood}
 use Rattle.atl_sql.specs.Making.{has_campaign}
-use Rattle.atl_store.specs.Keeps.{Keeps, IsLater, IsReadyToCreate, MayLeaveCampaign, Creates, BreaksOffCreation, FailsToCreate, RefusesToCreate, HoldsCampaign}
-use Rattle.atl_store.proofs.StayLaws.{unchanged_itself}
-use Rattle.atl_store.specs.declared.fault.CreateFault.{CreateFault}
-use Rattle.atl_store.specs.declared.fault.CreateFault.TheVariants.{NotEmpty, Store, Memory}
-use Rattle.atl_store.proofs.WorldTextLaws.{world_text_is}
+use Rattle.atl_keeping.specs.Keeps.{Keeps, IsLater, IsReadyToCreate, MayLeaveCampaign, Creates, BreaksOffCreation, FailsToCreate, RefusesToCreate, HoldsCampaign}
+use Rattle.atl_keeping.proofs.StayLaws.{unchanged_itself}
+use Rattle.atl_keeping.specs.declared.fault.CreateFault.{CreateFault}
+use Rattle.atl_keeping.specs.declared.fault.CreateFault.TheVariants.{NotEmpty, Store, Memory}
+use Rattle.atl_keeping.proofs.WorldTextLaws.{world_text_is}
 use Rattle.atl_sql.specs.Causes.{IsFaultOfError}
-use Rattle.atl_store.specs.Faults.{create_fault}
+use Rattle.atl_keeping.specs.Faults.{create_fault}
 use Rattle.atl_writing.specs.OwnStatements.{OfFounding}
 use Rattle.atl_sql.proofs.CauseLaws.{gives_among}
 use Rattle.atl_commands.specs.Causes.{OfFoundingBy}

@@ -14,10 +14,10 @@ use Rattle.atl_store.specs.Loading.{Loads, RefusesToLoad, LeavesAlone}
 use Rattle.atl_store.specs.declared.fault.StoreFault.{StoreFault}
 use Rattle.atl_store.specs.declared.fault.StoreFault.TheVariants.{Store}
 use Rattle.atl_writing.specs.Rows.{Holds}
-use Rattle.atl_store.specs.WorldText.{world_text}
+use Rattle.atl_keeping.specs.WorldText.{world_text}
 use Rattle.atl_store.proofs.AlikeLaws.{holds_one, one_text}
 use Rattle.atl_store.proofs.OneWorldLaws.{holds_one_world}
-use Rattle.atl_store.proofs.StayLaws.{survives_is_later, unchanged_itself}
+use Rattle.atl_keeping.proofs.StayLaws.{survives_is_later, unchanged_itself}
 use Rattle.atl_commands.specs.Service.{IsService}
 use Rattle.atl_service.specs.Opened.{ComesBack, Opens, RefusesOpening, cause_of_loading_fault}
 use Rattle.sqlite.specs.State.{HasCleanDisk}

@@ -7,9 +7,9 @@ use Rattle.sqlite_trees.specs.declared.store.Store.{Ghosts}
 use Rattle.sqlite.specs.Held.{Held, state}
 use Rattle.atl_world.specs.Worlds.{WorldValue}
 use Rattle.atl_campaign.specs.Campaign.{MarkedCampaign}
-use Rattle.atl_store.specs.Keeps.{IsLater}
+use Rattle.atl_keeping.specs.Keeps.{IsLater}
 use Rattle.atl_store.specs.Upgrading.{Upgrades}
-use Rattle.atl_store.proofs.WorldTextLaws.{world_text_is}
+use Rattle.atl_keeping.proofs.WorldTextLaws.{world_text_is}
 use Rattle.atl_commands.specs.Service.{IsService}
 use Rattle.atl_service.specs.Upgraded.{UpgradesTo}
 use Rattle.atl_service.proofs.FoundServiceLaws.{founded_consistent}

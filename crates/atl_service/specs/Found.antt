@@ -14,9 +14,9 @@ use Rattle.atl_tables.specs.declared.fault.WorldFault.TheVariants as world
 use Rattle.atl_campaign.specs.Campaign.{CampaignValue}
 use Rattle.atl_campaign.specs.Founding.{founded_of}
 use Rattle.atl_sql.specs.Making.{has_campaign}
-use Rattle.atl_store.specs.Keeps.{HoldsCampaign, IsLater, IsReadyToCreate, ChangesNothing, MayLeaveCampaign}
-use Rattle.atl_store.specs.declared.fault.CreateFault.{CreateFault}
-use Rattle.atl_store.specs.declared.fault.CreateFault.TheVariants as create
+use Rattle.atl_keeping.specs.Keeps.{HoldsCampaign, IsLater, IsReadyToCreate, ChangesNothing, MayLeaveCampaign}
+use Rattle.atl_keeping.specs.declared.fault.CreateFault.{CreateFault}
+use Rattle.atl_keeping.specs.declared.fault.CreateFault.TheVariants as create
 use Rattle.atl_service.specs.declared.cause.Cause.{Cause}
 use Rattle.atl_service.specs.declared.cause.Cause.TheVariants.{World as BadWorld, BadPassText, NotEmpty, NotACampaign, OldFormat, NotOld, Damaged, Differs, Store, Memory}
 use Rattle.atl_descriptions.specs.Statements.{Statements}

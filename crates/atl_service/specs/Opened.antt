@@ -9,7 +9,7 @@ use Rattle.atl_world.specs.Worlds.{WorldValue}
 use Rattle.atl_tables.specs.World.{world_of}
 use Rattle.atl_campaign.specs.Good.{IsGood}
 use Rattle.atl_campaign.specs.Campaign.{CampaignValue, MarkedCampaign}
-use Rattle.atl_store.specs.Keeps.{HoldsCampaign, IsLater}
+use Rattle.atl_keeping.specs.Keeps.{HoldsCampaign, IsLater}
 use Rattle.atl_store.specs.Loading.{Loads, RefusesToLoad, LeavesAlone}
 use Rattle.atl_store.specs.declared.fault.StoreFault.{StoreFault}
 use Rattle.atl_store.specs.declared.fault.StoreFault.TheVariants as load

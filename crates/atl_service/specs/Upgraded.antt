@@ -7,7 +7,7 @@ use Rattle.sqlite_trees.specs.declared.store.Store.{Ghosts}
 use Rattle.sqlite.specs.Held.{Held, state}
 use Rattle.sqlite.specs.State.{HasCleanDisk}
 use Rattle.atl_campaign.specs.Campaign.{MarkedCampaign}
-use Rattle.atl_store.specs.Keeps.{IsLater}
+use Rattle.atl_keeping.specs.Keeps.{IsLater}
 use Rattle.atl_store.specs.Upgrading.{Upgrades, RefusesToUpgrade}
 use Rattle.atl_store.specs.declared.fault.UpgradeFault.{UpgradeFault}
 use Rattle.atl_store.specs.declared.fault.UpgradeFault.TheVariants as upgrade

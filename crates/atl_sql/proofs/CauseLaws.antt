@@ -22,7 +22,8 @@ use Rattle.atl_sql.specs.Causes.{IsGiven, IsBroken, IsRefused, Gives, Leads, IsR
 more_later : (a b c : ℕ) → b ≤ c → MoreFaults a b → MoreFaults a c
 more_later a b c later more = omega (arith, later, more)
 
--- if the count of the disk's failures rose from `b` to `c`, it rose from `a`, which is at most `b`, to `c`
+-- if the count of the disk's failures rose from `b` to `c`, or is at the top of a u64 (`MoreFaults`), so it is from
+-- `a`, which is at most `b`, to `c`
 pub more_before : (a b c : ℕ) → a ≤ b → MoreFaults b c → MoreFaults a c
 more_before a b c before more = omega (arith, before, more)
 

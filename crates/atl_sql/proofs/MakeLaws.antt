@@ -195,7 +195,7 @@ module _ (schema : Schema) (among : (u : Table) → Has all_tables u → Has sch
     updates_make (inr over) r there same changed tests alone listed sound base is =
         over_make over.0 over.1 over.2 over.3 changed tests alone listed sound base is
 
-    -- an upsert leaves a sound database sound, if the schema stays and the trees list it (`IsDatabase`)
+    -- an upsert leaves a sound database sound, if the schema stays, and the trees list and obey it
     pub upserts_sound : Upserted schema t unlinked limit params target position project plain new old.trees next.trees
         → IsSoundDatabase schema old.trees → IsDatabase next → next.schema ≡ schema → IsSoundDatabase schema next.trees
     upserts_sound (inl put_in) sound base is = stays_sound old next sound base is put_in.1.keyed put_in.1.others

@@ -1,4 +1,5 @@
-//! Runs one statement inside a transaction; Err has its error. All writes of this crate go here.
+//! Runs one statement inside a transaction. On a clean disk Err has its error. All writes of this
+//! crate go here.
 ghost use Rattle.sqlite.specs.Values.{bound};
 ghost use Rattle.atl_descriptions.specs.Statements.{OneStatement};
 ghost use Rattle.atl_sql.specs.Writes.{Writes, RunsStatement};

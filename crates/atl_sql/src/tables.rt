@@ -94,8 +94,8 @@ fn create_each<S: Alter>(tx: &mut Transaction<'_, S>, tables: &[Description]) ->
     Ok(())
 }
 
-/// Makes the ten tables, each without a row, if the database has no table, index, view or trigger
-/// (`IsBlank`), and the disk is clean. Err has the error of a statement.
+/// On a clean disk: makes the ten tables, each without a row, if the database has no table, index,
+/// view or trigger (`IsBlank`); Err has the error of a statement.
 pub fn create_tables<S: Alter>(tx: &mut Transaction<'_, S>) -> Result<(), Error>
     ensures { Writes S.Store Creations (DoesInside IsBlank AreEmpty) result tx.old.conn
         tx.new.conn }
@@ -103,8 +103,8 @@ pub fn create_tables<S: Alter>(tx: &mut Transaction<'_, S>) -> Result<(), Error>
     create_each(tx, &described_tables())
 }
 
-/// Runs the CREATE TABLE text of `market`, which the first format lacks. If Ok, it has run, on a
-/// clean disk. Err has its error.
+/// Runs the CREATE TABLE text of `market`, which the first format lacks. On a clean disk Ok means
+/// that it has run, and Err has its error.
 pub fn create_market<S: Alter>(tx: &mut Transaction<'_, S>) -> Result<(), Error>
     ensures { Writes S.Store (OneStatement (creation_of Markets) [])
         (RunsStatement (creation_of Markets) []) result tx.old.conn tx.new.conn }

@@ -213,7 +213,8 @@ pub record IsMadeAs (p : Parts) (read : Part × List Row) : Type 0 where
   pub rows : (text : List ℕ) → rows_read text p read.0 ≡ without_ids read.0 read.1
   pub apart : shows_rowids read.0 ≡ true → HaveDistinctIntegers (column_count read.0) read.1
 
--- a part that is shown without rowids is made of the rows that were read (`IsMadeAs`), if `p` has these rows of it
+-- a part that is shown without rowids is made of the rows that were read (`IsMadeAs`), if `p` has these rows of it,
+-- whatever world text is given
 pub made_whole : {p : Parts} {rows : List Row} (part : Part) → shows_rowids part ≡ false
     → ((text : List ℕ) → rows_read text p part ≡ rows) → IsMadeAs p (part, rows)
 made_whole {p} {rows} part free are = record {

@@ -1,12 +1,8 @@
-pub mod ChangeLaws
 pub mod OwnLaws
 pub mod GatherLaws
 pub mod LoadLaws
 pub mod BareWorldLaws
-pub mod StayLaws
 pub mod UpgradedLaws
-pub mod JoinLaws
-pub mod WorldTextLaws
 pub mod ConfirmLaws
 pub mod PartsLaws
 pub mod KeyedLaws

@@ -16,7 +16,7 @@ use Rattle.sqlite.specs.Effect.{Database}
 use Rattle.sqlite.specs.Held.{Held, state}
 use Rattle.sqlite.specs.Order.{Row}
 use Rattle.sqlite.specs.Schema.{Schema}
-use Rattle.sqlite.specs.State.{HasCleanDisk}
+use Rattle.sqlite.specs.State.{State, HasCleanDisk}
 use Rattle.sqlite.specs.Table.{Table}
 use Rattle.atl_world.specs.declared.format.Format.{Format}
 use Rattle.atl_world.specs.declared.format.Format.TheVariants.{First, Second}
@@ -32,14 +32,14 @@ use Rattle.atl_rows.specs.declared.parts.Parts.{Parts}
 use Rattle.atl_rows.specs.declared.parts.StoredCampaignRow.{StoredCampaignRow}
 use Rattle.atl_store.specs.Faults.{fault_of_check}
 use Rattle.atl_store.specs.Gathering.{IsCommitted, FailsWithout, FoundBySelects, FailsToRead, FailsToConfirm, ReadRows, AreOfFormat, AllHaveDistinctRowids, HaveDistinctIntegers, without_ids, column_count, OwnRead, IsMadeOf, ReadsSome, GathersAll, IsConfirmed, IsLoaded}
-use Rattle.atl_store.specs.Keeps.{Keeps, Stores}
+use Rattle.atl_keeping.specs.Keeps.{Keeps, Stores}
 use Rattle.atl_store.specs.Loading.{HaveRows, rows_read, own_stored, KeepsOneRow, BreaksRule, MayReturnDamaged, RefusesToLoadIn, KeepsIn, LoadsIn, Loads, LeavesAlone, AfterReads, AreMade, AllSelectsShowTyped, MayReturnMemory, FailedMeanwhile, RefusesAgain, shows_rowids, tables_with_rowids, other_parts, other_selects}
 use Rattle.atl_writing.specs.Rows.{HoldsIn}
 use Rattle.atl_descriptions.specs.Statements.{selection}
 use Rattle.atl_descriptions.specs.PartSelects.{select_of_part}
 use Rattle.atl_descriptions.specs.Sets.{AreKeyedByRowid, rows_in}
 use Rattle.atl_descriptions.specs.Tables.{Part, Own, IsSoundDatabase, HasTablesOf, campaign_table, table_of, parts_in}
-use Rattle.atl_store.specs.WorldText.{world_text}
+use Rattle.atl_keeping.specs.WorldText.{world_text}
 use Rattle.atl_store.specs.declared.fault.LoadFault.{LoadFault}
 use Rattle.atl_store.specs.declared.fault.LoadFault.TheVariants.{Store, Damaged, NotACampaign, OtherFormat, Memory}
 use Rattle.atl_descriptions.specs.declared.records.campaign.StoredCampaign.{StoredCampaign}
@@ -48,7 +48,7 @@ use Rattle.atl_store.proofs.GatherLaws.{shown_open, fails_then, format_before}
 use Rattle.atl_sql.proofs.ListLaws.{has_map, map_has}
 use Rattle.atl_store.proofs.PartsLaws.{every_part, keeps_one_row, rows_hold, rows_keyed, holds_all}
 use Rattle.atl_sql.proofs.SelectLaws.{has_first}
-use Rattle.atl_store.proofs.WorldTextLaws.{kept_text_is}
+use Rattle.atl_keeping.proofs.WorldTextLaws.{text_held}
 
 module _ (f : Format) {S : Type 0} (g : Ghosts S) where
   -- if the campaign row was read, the SELECT of `campaign` shows one row, which keeps the first rule
@@ -71,6 +71,11 @@ not_own part is = elim (every_part part) [ inl own ↦ absurd (true≢false (sym
 has_own : (f : Format) → Has (parts_in f) Own
 has_own First = inl refl
 has_own Second = inl refl
+
+-- the text in the tables of a connection that keeps a campaign in a format with a text (`KeepsIn`) is this text
+kept_text_is : (f : Format) (s : State) (text : List ℕ) (c : CampaignValue) → KeepsIn f s text c
+    → world_text s ≡ text
+kept_text_is f s text c keeps = text_held f s text c (keeps.rows.rows Own (has_own f))
 
 read_of : (reads : ReadRows) → map (λ read. read.0) reads ≡ other_parts Second → (part : Part)
     → Has (other_parts Second) part → (read : Part × List Row) × Has reads read × (part ≡ read.0)

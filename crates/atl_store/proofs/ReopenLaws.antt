@@ -8,7 +8,7 @@ use Rattle.sqlite.specs.State.{HasCleanDisk, IsLive, Opens}
 use Rattle.sqlite_trees.specs.Tree.{Trees}
 use Rattle.sqlite_trees.specs.declared.store.Store.{Ghosts}
 use Rattle.atl_campaign.specs.Campaign.{CampaignValue}
-use Rattle.atl_store.specs.Keeps.{Keeps, LeavesAfterFault, Stores, HoldsCampaign}
+use Rattle.atl_keeping.specs.Keeps.{Keeps, LeavesAfterFault, Stores, HoldsCampaign}
 use Rattle.atl_store.specs.Reopening.{Reopens}
 use Rattle.atl_descriptions.specs.Tables.{HasAll}
 use Rattle.atl_store.proofs.SchemaTableLaws.{one_schema}

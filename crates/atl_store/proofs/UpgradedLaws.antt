@@ -21,21 +21,21 @@ use Rattle.atl_sql.specs.Causes.{Gives}
 use Rattle.atl_sql.specs.Errors.{is_memory}
 use Rattle.atl_store.specs.Faults.{first_format_fault, new_world_fault, upgrade_fault}
 use Rattle.atl_sql.specs.Inside.{Commits, LeavesOff, MayLeave}
-use Rattle.atl_store.specs.Keeps.{ChangesNothing, IsLater}
+use Rattle.atl_keeping.specs.Keeps.{ChangesNothing, IsLater}
 use Rattle.atl_store.specs.Loading.{LeavesAlone, LoadsIn, RefusesToLoadIn}
 use Rattle.atl_writing.specs.OwnStatements.{OfUpgrade}
 use Rattle.atl_writing.specs.Rows.{Holds, HoldsIn}
 use Rattle.atl_descriptions.specs.Tables.{HasTablesOf, IsFirstFormatOnly}
 use Rattle.atl_writing.specs.UpgradeSteps.{IsFirstFormat, WritesUpgrade}
 use Rattle.atl_store.specs.Upgrading.{BreaksOffUpgrade, FailsCheck, FailsInTransaction, HasMoreTables, HasOld, HasOtherWorld, HoldsOld, IsReadyToUpgrade, MatchesNewText, MayUpgrade, RefusesToUpgrade, Upgrades}
-use Rattle.atl_store.specs.WorldText.{world_text}
+use Rattle.atl_keeping.specs.WorldText.{world_text}
 use Rattle.atl_sql.specs.Writes.{Transacts}
 use Rattle.atl_store.specs.declared.fault.LoadFault.{LoadFault}
 use Rattle.atl_store.specs.declared.fault.LoadFault.TheVariants as load
 use Rattle.atl_store.specs.declared.fault.UpgradeFault.{UpgradeFault}
 use Rattle.atl_store.specs.declared.fault.UpgradeFault.TheVariants as upgrade
 use Rattle.atl_store.proofs.BareWorldLaws.{good_either}
-use Rattle.atl_store.proofs.StayLaws.{commits_keeps, failed_changes_nothing, may_found}
+use Rattle.atl_keeping.proofs.StayLaws.{commits_keeps, failed_changes_nothing, may_found}
 
 -- ---- what was loaded is what the tables held
 

@@ -14,14 +14,6 @@ use Rattle.atl_store.specs.declared.fault.LoadFault.{LoadFault}
 use Rattle.atl_store.specs.declared.fault.LoadFault.TheVariants as load
 use Rattle.atl_store.specs.declared.fault.UpgradeFault.{UpgradeFault}
 use Rattle.atl_store.specs.declared.fault.UpgradeFault.TheVariants as upgrade
-use Rattle.atl_store.specs.declared.fault.WriteFault.{WriteFault}
-use Rattle.atl_store.specs.declared.fault.WriteFault.TheVariants as write
-use Rattle.atl_store.specs.declared.fault.CreateFault.{CreateFault}
-use Rattle.atl_store.specs.declared.fault.CreateFault.TheVariants as create
-
--- the fault of a write: Memory if the database ran out of memory, else Store
-abbrev pub write_fault : Error → WriteFault
-write_fault e = if is_memory e then write.Memory else write.Store
 
 -- the `StoreFault` for an error of the database: Memory if it ran out of memory, else Store
 abbrev pub store_fault : Error → StoreFault
@@ -85,9 +77,3 @@ upgrade_fault_number upgrade.NotOld = Some 4
 upgrade_fault_number (upgrade.World fault) = Some 5
 upgrade_fault_number upgrade.Differs = Some 6
 upgrade_fault_number upgrade.Memory = None
-
--- ---- the faults of creating tables
-
--- the fault of `create` for an error of the database: Memory if it ran out of memory, else Store
-abbrev pub create_fault : Error → CreateFault
-create_fault e = if is_memory e then create.Memory else create.Store

@@ -1,9 +1,7 @@
 pub mod Faults
-pub mod Keeps
 pub mod Loading
 pub mod Gathering
 pub mod Reopening
-pub mod WorldText
 pub mod OneCampaign
 pub mod OneWorld
 pub mod Upgrading

@@ -30,7 +30,7 @@ use Rattle.atl_rows.specs.declared.parts.StoredHas.{StoredHas}
 use Rattle.atl_rows.specs.declared.parts.StoredCampaignRow.{StoredCampaignRow}
 use Rattle.atl_rows.specs.declared.parts.StoredMarket.{StoredMarket}
 use Rattle.atl_sql.specs.Errors.{is_memory}
-use Rattle.atl_store.specs.Keeps.{ChangesNothing, HoldsCampaign}
+use Rattle.atl_keeping.specs.Keeps.{ChangesNothing, HoldsCampaign}
 use Rattle.atl_sql.specs.Reading.{Selects, RefusesToSelect}
 use Rattle.atl_descriptions.specs.PartSelects.{select_of_part}
 use Rattle.atl_writing.specs.Rows.{HoldsIn}
@@ -40,7 +40,7 @@ use Rattle.atl_descriptions.specs.Sets.{rows_in, AreKeyedByRowid}
 use Rattle.atl_columns.specs.Forms.{Form}
 use Rattle.atl_sql.specs.Stored.{first_columns, AreTyped}
 use Rattle.atl_descriptions.specs.Tables.{Part, Own, Factions, Regions, Units, Goods, Structures, Mail, Reports, Books, Markets, campaign_table, books_table, table_of, parts_in, HasTablesOf}
-use Rattle.atl_store.specs.WorldText.{world_text}
+use Rattle.atl_keeping.specs.WorldText.{world_text}
 use Rattle.atl_sql.specs.declared.fault.ReadFault.{ReadFault}
 use Rattle.atl_sql.specs.declared.fault.ReadFault.TheVariants as read
 use Rattle.atl_store.specs.declared.fault.LoadFault.{LoadFault}

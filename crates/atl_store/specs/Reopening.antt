@@ -5,7 +5,7 @@ use Rattle.sqlite_trees.specs.declared.store.Store.{Ghosts}
 use Rattle.sqlite.specs.Held.{Held, state}
 use Rattle.sqlite.specs.State.{HasCleanDisk}
 use Rattle.atl_campaign.specs.Campaign.{CampaignValue}
-use Rattle.atl_store.specs.Keeps.{Keeps, Stores}
+use Rattle.atl_keeping.specs.Keeps.{Keeps, Stores}
 
 -- The connection `new` is `old` opened again after a crash. If the disk is clean now, it was clean before, and the
 -- tables are some that a crash could leave of `old`. If they then store a campaign (`Stores`), the new connection keeps

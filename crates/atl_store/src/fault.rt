@@ -1,7 +1,8 @@
 //! The faults of the store, and which of them an error becomes. See docs/FORMATS.md, "Tables".
 ghost use Rattle.std.specs.Prelude.{◌≡◌};
-ghost use Rattle.atl_store.specs.Faults.{write_fault, create_fault, store_fault, reopening_fault, load_fault, fault_of_check, second_format_fault, upgrade_fault, first_format_fault, new_world_fault, fault_number, upgrade_fault_number};
+ghost use Rattle.atl_store.specs.Faults.{store_fault, reopening_fault, load_fault, fault_of_check, second_format_fault, upgrade_fault, first_format_fault, new_world_fault, fault_number, upgrade_fault_number};
 
+pub use atl_keeping::fault::{CreateFault, WriteFault};
 pub use atl_sql::fault::ReadFault;
 use atl_sql::fault::by_cause;
 use atl_state::{CheckFault, Rule};
@@ -10,29 +11,6 @@ use sqlite::Error;
 use sqlite_trees::error::StoreError;
 use std::alloc::AllocError;
 use std::fmt;
-
-/// Why a write of a join, a mailing or changes failed. While the connection is open the tables are
-/// as they were; a crash leaves them so, or written.
-#[derive(Drop, Clone, Copy, Debug, PartialEq, Eq)]
-pub enum WriteFault {
-    /// The database refuses for another cause than memory.
-    Store,
-    /// Memory ran out.
-    Memory,
-}
-
-/// Why no campaign was created. While the connection is open the tables are as they were. A crash
-/// leaves them so or, except after NotEmpty, with the campaign.
-#[derive(Drop, Clone, Copy, Debug, PartialEq, Eq)]
-pub enum CreateFault {
-    /// A table `campaign` is there already. Nothing at all is changed.
-    NotEmpty,
-    /// The database refuses for another cause than memory, has other tables, an index or a view, or
-    /// is in a transaction.
-    Store,
-    /// Memory ran out.
-    Memory,
-}
 
 /// Why no campaign is loaded, or no database is opened again. Nothing is changed.
 #[derive(Drop, Clone, Copy, Debug, PartialEq, Eq)]
@@ -87,22 +65,6 @@ pub enum UpgradeFault {
     Memory,
 }
 
-impl fmt::Display for WriteFault {
-    fn fmt<W: fmt::Write>(&self, f: &mut fmt::Formatter<W>) -> fmt::Result {
-        write!(f, "{self:?}")
-    }
-}
-
-impl std::error::Error for WriteFault {}
-
-impl fmt::Display for CreateFault {
-    fn fmt<W: fmt::Write>(&self, f: &mut fmt::Formatter<W>) -> fmt::Result {
-        write!(f, "{self:?}")
-    }
-}
-
-impl std::error::Error for CreateFault {}
-
 /// Shows the name of the fault; of `Damaged` the rule's number, too, as `Damaged 11`.
 impl fmt::Display for StoreFault {
     fn fmt<W: fmt::Write>(&self, f: &mut fmt::Formatter<W>) -> fmt::Result {
@@ -130,22 +92,6 @@ impl fmt::Display for UpgradeFault {
 impl std::error::Error for UpgradeFault {}
 
 /// An error of the database becomes Memory for lack of memory, else Store.
-impl From<Error> for WriteFault {
-    ghost from_gives = { λ error fault. fault ≡ write_fault error };
-
-    fn from(error: Error) -> WriteFault {
-        by_cause(error, WriteFault::Memory, WriteFault::Store)
-    }
-}
-
-impl From<Error> for CreateFault {
-    ghost from_gives = { λ error fault. fault ≡ create_fault error };
-
-    fn from(error: Error) -> CreateFault {
-        by_cause(error, CreateFault::Memory, CreateFault::Store)
-    }
-}
-
 impl From<Error> for StoreFault {
     ghost from_gives = { λ error fault. fault ≡ store_fault error };
 
@@ -167,16 +113,6 @@ impl From<Error> for UpgradeFault {
 
     fn from(error: Error) -> UpgradeFault {
         by_cause(error, UpgradeFault::Memory, UpgradeFault::Store)
-    }
-}
-
-impl From<AllocError> for WriteFault {
-    ghost use Rattle.atl_store.specs.declared.fault.WriteFault.TheVariants.{Memory};
-
-    ghost from_gives = { λ _ fault. fault ≡ Memory };
-
-    fn from(_e: AllocError) -> WriteFault {
-        WriteFault::Memory
     }
 }
 

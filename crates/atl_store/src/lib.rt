@@ -3,23 +3,16 @@
 //! docs/FORMATS.md, "Tables".
 #![tactic(auto)]
 
-mod changing;
 pub mod fault;
-mod founding;
-mod joining;
 mod loading;
-mod mailing;
 mod one_campaign;
 mod reopening;
 mod upgrading;
 
+pub use atl_keeping::{create, write_changes, write_join, write_mail};
 pub use atl_sql::{rows, schema, tables};
-pub use changing::write_changes;
 pub use fault::{CreateFault, ReadFault, StoreFault, UpgradeFault, WriteFault};
-pub use founding::create;
-pub use joining::write_join;
 pub use loading::load;
-pub use mailing::write_mail;
 pub use one_campaign::one_database_holds_one_campaign;
 pub use reopening::reopen_connection;
 pub use upgrading::upgrade;

@@ -3,7 +3,7 @@ ghost use Rattle.std.specs.Prelude.{List, ℕ, ◌⊎◌, IfOk};
 ghost use Rattle.sqlite.specs.Held.{state};
 ghost use Rattle.sqlite.specs.State.{HasCleanDisk};
 ghost use Rattle.atl_campaign.specs.Campaign.{CampaignValue};
-ghost use Rattle.atl_store.specs.Keeps.{HoldsCampaign, Keeps, LeavesAfterFault};
+ghost use Rattle.atl_keeping.specs.Keeps.{HoldsCampaign, Keeps, LeavesAfterFault};
 ghost use Rattle.atl_store.specs.Reopening.{Reopens};
 
 use crate::fault::StoreFault;

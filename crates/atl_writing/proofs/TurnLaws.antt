@@ -66,14 +66,14 @@ abbrev pub are_distinct : List Part → Bool
 are_distinct [] = true
 are_distinct (part ∷ parts) = are_apart (part ∷ []) parts && are_distinct parts
 
--- what rows become, part by part
+-- what rows become, part by part; it may depend on an `x`, such as the campaign row
 module _ {X : Type 0} (Becomes : X → Part → List Row → List Row → Type 0) where
-  -- The rows of one part become what `Becomes x` says, whatever `x` is (as the campaign row); all other tables stay.
+  -- the rows of one part become what `Becomes x` says, whatever `x` is; all other tables stay
   abbrev pub Turn : Part → Database → Database → Type 0
   Turn part old new = (x : X) → Changes (Becomes x) (part ∷ []) old new
 
-  -- if the rows of each part become in turn what `Becomes` says, those of all do (`Changes`), if no part is listed
-  -- twice
+  -- if the rows of each part become in turn what `Becomes` says for every `x`, and no part is listed twice, those of
+  -- all become it (`Changes`)
   pub in_turn_changed : (parts : List Part) → are_distinct parts ≡ true → (old new : Database)
       → InTurn Turn parts old new → (x : X) → Changes (Becomes x) parts old new
   in_turn_changed [] apart old new none x =

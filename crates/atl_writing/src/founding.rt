@@ -12,7 +12,9 @@ use atl_campaign::Campaign;
 use atl_sql::tables::create_tables;
 use sqlite::{Alter, Connection, Error, Transaction};
 
-/// Fills a database that has no table. The books may have no more things than a world can have.
+/// On a clean disk: makes the ten tables and writes the world text and all rows of the campaign, if
+/// the database has no table, index, view or trigger; Err has the error of a statement. The books
+/// may have no more things than a world can have.
 fn put_founding<S: Alter>(
     tx: &mut Transaction<'_, S>,
     text: &str,

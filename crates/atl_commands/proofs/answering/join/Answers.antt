@@ -2,10 +2,10 @@ use Rattle.std.proofs.Common.{rules, ◌≡◌, ap, sym, ◌∙◌, subst}
 use Rattle.sqlite.specs.Held.{state}
 use Rattle.atl_campaign.specs.Campaign.{CampaignValue, MarkedCampaign}
 use Rattle.atl_sql.specs.Causes.{IsFaultOfError}
-use Rattle.atl_store.specs.Faults.{write_fault}
+use Rattle.atl_keeping.specs.Faults.{write_fault}
 use Rattle.atl_campaign.specs.Good.{IsGood}
 use Rattle.atl_writing.specs.OwnStatements.{OfJoining}
-use Rattle.atl_store.proofs.StayLaws.{on_err}
+use Rattle.atl_keeping.proofs.StayLaws.{on_err}
 use Rattle.atl_commands.specs.declared.command.Command.TheVariants.{Join}
 use Rattle.atl_commands.specs.declared.command.Refusal.TheVariants as why
 use Rattle.atl_commands.specs.Left.{LeavesGood}

@@ -2,9 +2,9 @@ use Rattle.std.proofs.Common.{rules, ◌≡◌, sym, ap, ◌∙◌, subst}
 use Rattle.sqlite.specs.Held.{state}
 use Rattle.atl_campaign.specs.Campaign.{CampaignValue, MarkedCampaign, with_mail}
 use Rattle.atl_sql.specs.Causes.{IsFaultOfError}
-use Rattle.atl_store.specs.Faults.{write_fault}
+use Rattle.atl_keeping.specs.Faults.{write_fault}
 use Rattle.atl_writing.specs.OwnStatements.{OfMail}
-use Rattle.atl_store.proofs.StayLaws.{on_err}
+use Rattle.atl_keeping.proofs.StayLaws.{on_err}
 use Rattle.atl_commands.specs.declared.command.Command.TheVariants.{Mail}
 use Rattle.atl_commands.specs.Answering.{CommandLeavesAfterFault}
 use Rattle.atl_campaign.proofs.GoodLaws.{IsGood-with_mail}

@@ -3,9 +3,9 @@ use Rattle.sqlite.specs.Held.{state}
 use Rattle.atl_campaign.specs.Campaign.{CampaignValue, MarkedCampaign}
 use Rattle.atl_campaign.proofs.CoverLaws.{marks-trans}
 use Rattle.atl_sql.specs.Causes.{IsFaultOfError}
-use Rattle.atl_store.specs.Faults.{write_fault}
+use Rattle.atl_keeping.specs.Faults.{write_fault}
 use Rattle.atl_writing.specs.OwnStatements.{OfChange}
-use Rattle.atl_store.proofs.StayLaws.{on_err}
+use Rattle.atl_keeping.proofs.StayLaws.{on_err}
 use Rattle.atl_commands.specs.declared.command.Command.TheVariants.{Close}
 use Rattle.atl_commands.specs.Answering.{CommandLeavesAfterFault}
 use Rattle.atl_commands.specs.Causes.{OfCommand}

@@ -1,7 +1,7 @@
 use Rattle.std.proofs.Common.{◌≡◌, ◌≤◌, ◌++◌, List, IfSome, length, drop, vec_len, vec_capacity}
 use Rattle.atl_commands.specs.declared.command.Answer.{Answer}
 use Rattle.atl_campaign.specs.Totals.{Balances}
-use Rattle.atl_store.specs.Keeps.{HoldsCampaign}
+use Rattle.atl_keeping.specs.Keeps.{HoldsCampaign}
 use Rattle.atl_commands.specs.Service.{ServiceValue, text_in}
 use Rattle.atl_commands.specs.Runs.{RunsAll}
 use Rattle.atl_commands.proofs.service.Service.run_all.Given as goal

@@ -1,0 +1,4 @@
+pub mod ChangeLaws
+pub mod StayLaws
+pub mod JoinLaws
+pub mod WorldTextLaws
