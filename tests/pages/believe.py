@@ -93,6 +93,8 @@ class Everything:
             self.see_variant(self.types.get((crate[0], *modules, kind)), name, "TheVariants" in path, by)
         elif path in self.modules and name in self.modules[path].words:
             self.reach_definition(self.modules[path].words[name])
+        elif path in self.modules and name in self.modules[path].imports:
+            self.reach(self.modules[path], name, by)
         else:
             self.missing.append(f"{by}: {path} has no {name}")
 

@@ -110,8 +110,8 @@ def add_lines(module: Module, lines: list[str]) -> None:
         begins = BEGINS.match(line)
         if line.strip():
             around = [head for head in around if indent(head[1]) < indent(line)]
-        if line.startswith("use "):
-            add_use(module, line)
+        if line.startswith(("use ", "pub use ")):
+            add_use(module, line.removeprefix("pub "))
         elif line.lstrip().startswith("module _"):
             around, now = [*around, (number, line)], None
         elif begins:

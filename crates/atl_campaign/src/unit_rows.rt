@@ -1,5 +1,5 @@
-//! The row of `unit`: how a unit is written in it and read from it, and its ranges. Items and days of
-//! study are rows of the table `has`. See docs/FORMATS.md, "Tables" and "Rules of the tables".
+//! The row of `unit`: how a unit is written in it and read from it, and its ranges. Items and days
+//! of study are rows of the table `has`. See docs/FORMATS.md, "Tables" and "Rules of the tables".
 ghost use Rattle.std.specs.Prelude.{◌≡◌, IfOk, true};
 ghost use Rattle.atl_world.specs.Names.{name_ok};
 ghost use Rattle.atl_campaign.specs.Assembling.{bare_unit};

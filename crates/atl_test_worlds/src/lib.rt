@@ -1,6 +1,6 @@
 //! World texts that several crates of tests share, the rows and mailings of a month on the island
-//! (`month`), and rows to begin with (`rows`). The small world has one region; the island has three regions of land and one
-//! of sea.
+//! (`month`), and rows to begin with (`rows`). The small world has one region; the island has three
+//! regions of land and one of sea.
 #![tactic(auto)]
 
 pub mod month;

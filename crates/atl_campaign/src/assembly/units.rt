@@ -1,7 +1,7 @@
-//! Builds the units from their rows, and the lists of units. Of rows with one number the last counts.
-//! `has` are rows of the table `has`: items and days of study. The rows of units and of `has` have
-//! to be in their ranges, and the names of units to keep their rule. Where memory runs out, the
-//! answer is AllocError.
+//! Builds the units from their rows, and the lists of units. Of rows with one number the last
+//! counts. `has` are rows of the table `has`: items and days of study. The rows of units and of
+//! `has` have to be in their ranges, and the names of units to keep their rule. Where memory runs
+//! out, the answer is AllocError.
 ghost use Rattle.std.specs.Prelude.{◌≡◌, IfOk, true};
 ghost use Rattle.std.specs.List.{list_all};
 ghost use Rattle.atl_world.specs.Names.{name_ok};
