@@ -80,7 +80,8 @@ module _ (structure to : ℕ) where
   abbrev pub elsewhere : FinMap nat_cmp Unit → ℕ → FinMap nat_cmp Unit
   elsewhere m n = with_changed_value put_elsewhere m n
 
-  -- putting unit n elsewhere and then clearing its flag changes nothing of the campaign but the units (`elsewhere`)
+  -- putting unit n, if it is there, into region `to` and `structure`, and then clearing its flag, changes the units as
+  -- `elsewhere` says, and nothing else of the campaign
   pub elsewhere_is : (c : CampaignValue) (n : ℕ)
       → with_guard (with_position c n to structure) n false ≡ record c { units = elsewhere c.units n }
   elsewhere_is c n =
@@ -108,8 +109,6 @@ module _ (structure to : ℕ) where
   elsewhere_inside m n q v is here =
       ap (λ o. numbers_inside q (with_changed_option put_elsewhere m n o)) is
       ∙ inside_as_before q m (insert m n (put_elsewhere v)) (numbers_where-insert_known (λ (x : Unit). x.structure == q) m n v (put_elsewhere v) is (ap (λ s. s == q) here))
-
--- ---- the totals
 
 -- where the units are the same people and the regions are as they were, the total of each thing is the same
 pub total_people : (c d : CampaignValue) → AreSamePeople c.units d.units → d.regions ≡ c.regions → (t : Thing)

@@ -413,8 +413,8 @@ sail_orderly = record {
   bounded = λ w c steady e t. omega arith;
 }
 
--- Every unit of c is in d, and has changed at most as `IsAtMostMoved` allows, if this is so of each unit that no order
--- of SAIL affects: by `affects_nobody` these are all units.
+-- Every unit of c, the campaign before, is in d, that after, and has changed at most as `IsAtMostMoved` allows, if this
+-- is so of each unit that no order of SAIL affects: by `affects_nobody` these are all units.
 pub all_carried : (w : WorldValue) (m : MonthValue) (c d : CampaignValue)
     → others_unaffected affects_nobody IsAtMostMoved is_sailing w m c d → AreAtMostMoved c d
 all_carried w m c d keeps n u there = keeps n u there (λ k d l nobody. nobody)
@@ -528,7 +528,7 @@ module _ (w : WorldValue) (begun : CampaignValue) (number faction : ℕ) where
       let next = one_order sail_step w (c, m) t in
       tasks_stay next.0 next.1 ts (task_stays c same m t others.0) others.1
 
--- if the campaign is steady as the phase begins, a unit that no order of SAIL takes along (`SailsWith`) stays unchanged
+-- if the campaign is steady as the phase begins, a unit that no SAIL that counts takes along (`SailsWith`) is unchanged
 pub others_do_not_sail : (w : WorldValue) (c : CampaignValue) (m : MonthValue) → IsSteady w c
     → others_unaffected (SailsWith w c) IsUnchanged is_sailing w m c (sail_spec.meaning w c m).0
 unfolding meaning_by_orders

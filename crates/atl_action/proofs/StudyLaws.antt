@@ -172,8 +172,8 @@ study_stays w taught c n s u k apart =
     study_cases (λ d. get d.units k ≡ get c.units k) w taught c n s u refl
     (λ days payable most. get-insert_other c.units n k (record u { holding = with_study u.holding s (fee_of w s * u.holding.men) days }) apart)
 
--- A condition P holds of the effect of an order of STUDY with any operands, if it holds for each skill that they may
--- name
+-- A condition P holds of the effect of an order of STUDY for unit n with operands o, if it has one. This supposes that
+-- P holds of the effect of STUDY for the skill that they name, if they name one.
 pub of_each_skill : (P : OrderEffect → Type 0) (w : WorldValue) (taught : TaughtMen) (n : ℕ) (o : OperandsValue)
     → ((s : ℕ) → o ≡ operands.Skill s → P (study w (taught n) n s)) → IfSome (study_effect w taught n o) P
 of_each_skill P w taught n (operands.Skill s) each = each s refl

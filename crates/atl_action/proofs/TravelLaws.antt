@@ -59,7 +59,7 @@ module _ (w : WorldValue) (c : CampaignValue) (units : FinMap nat_cmp Unit) (str
     pub put : Every (λ k u. IsPut (f k u)) c.units
     -- each structure is in a region that is there
     pub built : Every (λ k y. HasValue c.regions (g k y).region) c.structures
-    -- each structure has its right owner, after the changes
+    -- after the changes each structure is owned by a unit inside it, or by nobody where no unit is inside
     pub owned : Every (λ k y. IsOwned travelled k (g k y)) c.structures
     -- on water units are inside ships (`IsAboard`)
     pub aboard : Every (λ k u. is_land_at w (f k u).region ≡ false → IsAboard w travelled (f k u)) c.units

@@ -1,6 +1,6 @@
--- Laws of the phase of TEACH and STUDY, which keeps the mailings. If it keeps what `learn_keeps` says, each unit of a
--- faction without a mailing is still there after it (`LeavesUnmailed`). It has its faction and name, no less of any
--- item, and its men less the starved. These are the men whom the phase's Starved events report; it reports none.
+-- Laws of the phase of TEACH and STUDY, which keeps the mailings and takes back no Starved event. If it keeps what
+-- `learn_keeps` says, each unit of a faction without a mailing is still there after it (`LeavesUnmailed`). It has its
+-- faction and name, no less of any item, and its men less the starved whom the phase's Starved events report: none.
 use Rattle.std.proofs.Common.{◌≡◌, ◌∷◌, [], List, ◌-◌, ◌*◌, ℕ, Some, None, refl, ap, subst, ◌∙◌, arith}
 use Rattle.std.specs.Prelude.{fold}
 use Rattle.std.specs.FinMap.{get}

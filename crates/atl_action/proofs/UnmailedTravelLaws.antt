@@ -1,6 +1,6 @@
--- Laws of MOVE and SAIL, which keep the mailings. If a phase keeps what its specification says, each unit of a faction
--- without a mailing is still there after it (`PhaseLeavesUnmailed`). It has its faction and name, no less of any item,
--- and its men less the starved. These are the men whom the phase's Starved events report; both phases report none.
+-- Laws of MOVE and SAIL, which keep the mailings and take back no Starved event. If a phase keeps what its
+-- specification says, each unit of a faction without a mailing is still there after it (`PhaseLeavesUnmailed`). It has
+-- its faction and name, no less of any item, and its men less the starved whom its Starved events report: none.
 use Rattle.std.proofs.Common.{ℕ, false, refl}
 use Rattle.std.specs.Prelude.{fold, unwrap_or}
 use Rattle.std.specs.FinMap.{get}

@@ -115,8 +115,8 @@ module _ (w : WorldValue) (c : CampaignValue) (n : ℕ) (u : Unit) (to : ℕ) (i
     left_owned : old_place ≢ 0 → (y : Structure) → IsOwned after old_place (owned_by next y)
     left_owned some = heir_owns c after n away old_place some low (λ v at inside. some (sym inside ∙ outside v at))
 
-    -- `g` makes the structures after the walk, by number, of those before. Each keeps all but its owner, and then has
-    -- its right owner.
+    -- `g` makes the structures after the walk, by number, of those before. Each keeps all but its owner, and is then
+    -- owned by a unit inside, or by nobody where no unit is inside.
     module _ (g : ℕ → Structure → Structure) (at : (k : ℕ) → get structures k ≡ option_map (g k) (get c.structures k)) (count : len structures ≡ len c.structures)
         (same : Every (λ k y. IsSameStructure y (g k y) × ((g k y).region ≡ y.region)) c.structures) (owned : Every (λ k y. IsOwned after k (g k y)) c.structures) where
       forth : (k : ℕ) (y : Structure) → get c.structures k ≡ Some y → get structures k ≡ Some (g k y)
@@ -161,8 +161,6 @@ module _ (w : WorldValue) (c : CampaignValue) (n : ℕ) (u : Unit) (to : ℕ) (i
       after_well =
           stays_well IsSteady w c after (steady-travelled w c units structures f g walked_travelled steady)
           (same_month_by refl) refl (total_people c after same_people refl)
-
-  -- ---- a unit that was inside no structure
 
   unowned : old_place ≡ 0 → (q : ℕ) (y : Structure) → get c.structures q ≡ Some y → IsOwned (after c.structures) q y
   unowned outside q y there =
@@ -258,8 +256,8 @@ pub none_fit : (faults : List (Bool × EventFault)) → first_fault faults ≡ N
 none_fit [] is = tt
 none_fit ((fits, fault) ∷ more) is = let (none, others) = none_fits fits fault more is in (none, none_fit more others)
 
--- A condition P holds of the effect of an order with any operands (`by_direction`), if it holds of the effect in each
--- direction
+-- A condition P holds of the effect of an order with operands o (`by_direction`), if they name a direction. This
+-- supposes that P holds of the effect in each direction.
 pub in_each_direction : (P : OrderEffect → Type 0) (effect : Direction → OrderEffect) (o : OperandsValue)
     → ((direction : Direction) → P (effect direction)) → IfSome (by_direction effect o) P
 in_each_direction P effect (operands.Direction direction) each = each direction

@@ -96,7 +96,7 @@ sail w n direction c u =
     let to = neighbour w u.region direction in
     fault_or c (sail_fault w c n u (get c.structures u.structure) to) (after_sailing c u.structure (unwrap_or to 0), Done 0)
 
--- the step of the phase of SAIL: the effect of an order, by its unit and operands; None where they name no direction
+-- the effect of order t in the phase of SAIL, by its unit and operands; None where the operands name no direction
 abbrev pub sail_step : OrderMeaning
 sail_step w aliases t = by_direction (sail w t.unit) t.order_value.operands
 
@@ -135,7 +135,7 @@ pub record SailsWith (w : WorldValue) (begun : CampaignValue) (t : Task) (n f : 
   pub done : (order_result (by_direction (sail w t.unit) t.order_value.operands) begun t.faction t.unit).1 ≡ Some (Done 0)
 
 -- What SAIL keeps: each unit is still there, and has changed at most as `IsAtMostMoved` allows. A unit is unchanged if
--- no order of SAIL makes its ship sail, as things are when the phase begins (`SailsWith`).
+-- no order of SAIL that counts makes its ship sail, as things are when the phase begins (`SailsWith`).
 abbrev pub sail_keeps : Frame
 sail_keeps w m before after =
     AreAtMostMoved before after

@@ -69,13 +69,13 @@ study w taught n s c u =
     let days = days_after u.holding.men old taught (is_helpful w s (get c.structures u.structure)) in
     fault_or c (study_fault u.holding cost) (after_study c n u s cost days, Done (days - old))
 
--- The effect of an order of STUDY for unit n, by its operands; None for operands of any other form. `taught` has how
--- many men of each unit were taught.
+-- The effect of an order of STUDY for unit n, by its operands; None where they name no skill. `taught` has how many men
+-- of each unit were taught.
 abbrev pub study_effect : WorldValue → TaughtMen → (n : ℕ) → OperandsValue → Option OrderEffect
 study_effect w taught n (operands.Skill s) = Some (study w (taught n) n s)
 study_effect w taught n other = None
 
--- the step of STUDY: the effect of an order, given how many men of each unit were taught; None for any other operands
+-- the effect of order t of STUDY, where `taught` has how many men of each unit were taught; None if it names no skill
 abbrev pub study_step : TaughtMen → OrderMeaning
 study_step taught w aliases t = study_effect w taught t.unit t.order_value.operands
 

@@ -61,7 +61,7 @@ abbrev pub by_direction : (Direction → OrderEffect) → OperandsValue → Opti
 by_direction effect (operands.Direction direction) = Some (effect direction)
 by_direction effect other = None
 
--- the step of the phase of MOVE: the effect of an order, by its unit and operands; None where they name no direction
+-- the effect of order t in the phase of MOVE, by its unit and operands; None where the operands name no direction
 abbrev pub walk_step : OrderMeaning
 walk_step w aliases t = by_direction (walk w t.unit) t.order_value.operands
 

@@ -49,7 +49,8 @@ fn can_learn(world: &World, skill: u16, holding: &Holding) -> bool
     0 < men && cost_of(world, skill, men) <= u64::from(holding.money())
 }
 
-/// Puts the skill of an order under its unit, if the unit is the faction's own and can learn.
+/// Puts the skill of an order, whose operands have the shape that STUDY takes, under its unit, if
+/// that is there, of the faction that wrote the order, and can learn. Else nothing changes.
 fn add_learner(
     world: &World,
     campaign: &Campaign,

@@ -128,6 +128,7 @@ fn move_ship(alloc: Global, campaign: &mut Campaign, ship: u32, to: u32) -> Resu
     Ok(())
 }
 
+/// Carries out a SAIL: NotYours where its unit isn't there or isn't of the faction that wrote it.
 #[tactic(auto, unfolding(crate::specs::Sail::sail))]
 fn sail(
     alloc: Global,

@@ -48,8 +48,8 @@ fn is_helpful(world: &World, skill: u16, structure: Option<&Structure>) -> bool
 }
 
 /// The days of a skill after a month of study, over all men together, as are the `old` ones; at
-/// most 450 for each man. `taught` is how many men were taught, `helped` whether their structure
-/// helps the skill.
+/// most 450 for each man. There are at most 999,999 men, of whom `taught` were taught; `helped` is
+/// whether their structure helps the skill.
 fn days_after(men: u32, old: u32, taught: u32, helped: bool) -> u32
     requires { men ≤ men_limit }
     ensures { result ≡ days_after men old taught helped }
@@ -94,8 +94,9 @@ fn pay_and_set_days(
     campaign.set_days(unit, u32::from(skill), days)
 }
 
-/// Takes the cost, books it, and sets the unit's days of the skill. The unit must be there and have
-/// that much money.
+/// Takes the cost, books minus as much under study, and sets the unit's days of the skill. The unit
+/// must be there and have that much money. The campaign is steady, and its books have room for the
+/// money of all units under study.
 fn put_study(
     world: &World,
     campaign: &mut Campaign,
@@ -118,6 +119,9 @@ fn put_study(
     Ok(())
 }
 
+/// Carries out an order to study a skill; `taught` is how many men of its unit were taught. The
+/// campaign is steady, and its books have room for the money of all units under study. NotYours
+/// where the unit isn't there or isn't of the faction that wrote the order.
 #[tactic(auto, unfolding(crate::specs::Study::study))]
 fn study(
     world: &World,

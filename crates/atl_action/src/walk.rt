@@ -38,8 +38,8 @@ fn walk_fault(world: &World, unit: &Unit, to: Option<u32>) -> Option<EventFault>
 }
 
 /// Puts a unit into a region, and inside a structure there, or inside none for 0, and clears its
-/// guard flag. Structures that it leaves or enters may get other owners. Where there is no such
-/// unit, nothing changes.
+/// guard flag. A structure that it owned and leaves gets its next owner, and it owns one that it
+/// enters and nobody owns. Where there is no such unit, nothing changes.
 pub(crate) fn put_unit(
     campaign: &mut Campaign,
     unit: u32,
@@ -55,6 +55,7 @@ pub(crate) fn put_unit(
     Ok(())
 }
 
+/// Carries out a MOVE: NotYours where its unit isn't there or isn't of the faction that wrote it.
 #[tactic(auto, unfolding(crate::specs::Walk::walk))]
 fn walk(
     world: &World,

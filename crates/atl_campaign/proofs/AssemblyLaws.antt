@@ -19,8 +19,6 @@ use Rattle.atl_world.proofs.TrackLaws.{get_inserted}
 use Rattle.atl_world.proofs.SetLaws.{or_without_first_is_second}
 use Rattle.atl_world.proofs.EveryLaws.{get-insert_other}
 
--- ---- what units have, and regions in stock
-
 -- a row that passes `test` puts the amount that `amount` reads from it into a map, under the number that `thing` reads
 module _ {R : Type 0} (thing amount : R → ℕ) (test : R → Bool) where
   -- putting the rows of r ∷ rows that pass a test into a map puts in r first, if r passes (b), and then the rows of
@@ -111,15 +109,11 @@ pub AreAmounts-had : (n : ℕ) (rows : List StoredHas) → list_all has_in_range
     → AreAmounts (things_had n 0 rows)
 AreAmounts-had n rows h = put_in_range n rows empty h none_held
 
--- ---- texts
-
 -- an Ok result holds `bytes`, if it holds `some` whenever `some` is UTF-8, and `some` equals `bytes`, which is UTF-8
 pub IfOk-text : {E : Type 0} (r : Result (List ℕ) E) (some bytes : List ℕ) → some ≡ bytes → IsUtf8 bytes
     → IfOk r (λ made. IsUtf8 some → made ≡ some) → IfOk r (λ made. made ≡ bytes)
 IfOk-text (Ok made) some bytes e h f = f (subst IsUtf8 (sym e) h) ∙ e
 IfOk-text (Err x) some bytes e h f = tt
-
--- ---- a test that all rows pass
 
 -- the row r at index i, which is less than the count of rows, passes a test p that all rows pass
 pub row_passes_test : {R : Type 0} (p : R → Bool) (rows : List R) (i : ℕ) (r : R) → i < length rows

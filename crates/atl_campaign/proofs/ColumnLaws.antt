@@ -1,6 +1,6 @@
 -- Laws of rows that are described column by column: values that fit are written and read back, and so are fields.
--- cs are the columns, v values, r fields; the limit of each number is at most most_u32 (`small`). `so_far` is what
--- `still_in_range` was given.
+-- cs are the columns, v values, r fields. `are_small cs` says that the limit of each number is at most most_u32.
+-- `so_far` is what `still_in_range` was given.
 use Rattle.std.proofs.Common.{◌≡◌, ℕ, zero, suc, ◌≤◌, ◌<◌, ◌&&◌, List, [], ◌∷◌, Bool, true, false, nat_le, refl, sym, ap, ◌∙◌, arith}
 use Rattle.std.specs.Prelude.{ℤ, pos, negsuc, ⊤, min}
 use Rattle.std.proofs.lemmas.Bool.{and_parts, false≢true}

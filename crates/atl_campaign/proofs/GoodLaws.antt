@@ -146,8 +146,6 @@ IsGood-joined w name pass word c d faction unit text is good sound =
     }) in
     whole sound
 
--- ---- a sound campaign is early, and so a good one
-
 set_guards : (flag : Bool) (men : ℕ) → 1 ≤ men → flag ≡ true → (flag && nat_lt 0 men) ≡ true
 set_guards flag men h set = let some : nat_lt 0 men ≡ true = grind (arith, nat_tests) in both_true set some
 

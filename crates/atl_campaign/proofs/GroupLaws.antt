@@ -157,7 +157,7 @@ module _ {R K : Type 0} (key : R → K) (same : K → K → Bool) (itself : (k :
   abbrev pub IsOfGroupWithP : R → Type 0
   IsOfGroupWithP r = P r × (mine r ≡ true)
 
-  -- P holds of each row of the group, if it holds of each row
+  -- the rows that the test `mine` leaves are of the group, and P holds of each, if P holds of all rows
   pub all_mine : (rows : List R) → AllByRecursion P rows → AllByRecursion IsOfGroupWithP (filter mine rows)
   all_mine rows all =
       kept mine IsOfGroupWithP rows
@@ -191,8 +191,8 @@ module _ {R : Type 0} (thing amount : R → ℕ) where
         let itself : line (thing r, amount r) ≡ r ∷ [] = ap (λ s. filter some (s ∷ [])) all.0.0 ∙ ap (λ b. cond b (r ∷ []) []) all.0.1 in
         ap (λ rs. rs ++ flat_map (λ r. line (thing r, amount r)) rows) itself ∙ ap (λ rs. r ∷ rs) (row_lines rows all.1)
 
-    -- the map of a group's things and amounts is written as just the group's rows, in some order, if things differ.
-    -- Each row is to be the one written for its thing and amount, and to pass the test.
+    -- the map of a group's things and amounts is written, without rows that fail the test `some`, as just the group's
+    -- rows, in some order, if things differ. Each row is to be the one written for its thing and amount, and to pass.
     pub lines_order : (rows : List R) → HaveDistinctNumbers thing rows
         → AllByRecursion (λ r. (row (thing r) (amount r) ≡ r) × (some r ≡ true)) rows
         → IsPermutation (filter some (rows_by row (entries (by_number thing amount rows)))) rows

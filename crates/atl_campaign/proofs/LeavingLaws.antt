@@ -137,7 +137,8 @@ module _ (w : WorldValue) (c : CampaignValue) (n : ℕ) (u : Unit) (is : get c.u
       structures = every_owned (λ k s. is_land_at w s.region ≡ false → (is_ship w s ≡ true) × (s.done ≡ size_of w s.kind)) (λ k o y h. h) old.structures;
     }
 
-    -- the campaign stays steady without unit n, and with structures that differ at most in owners (AreReowned)
+    -- the campaign stays steady without unit n, and with structures that differ at most in owners, if each is owned by
+    -- a unit left inside, or by nobody where none is (AreReowned)
     pub steady_left : IsSteady w c → IsSteady w after
     steady_left old = record {
       numbers = numbers_left old.numbers;

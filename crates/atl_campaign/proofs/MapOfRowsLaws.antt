@@ -132,8 +132,6 @@ HaveDistinctNumbers-keys key number same P apart [] h d = tt
 HaveDistinctNumbers-keys key number same P apart (r ∷ rows) h d =
     (each_apart key number same P r (λ s. apart r s h.0) rows h.1 d.0, HaveDistinctNumbers-keys key number same P apart rows h.1 d.1)
 
--- ---- tests of each row
-
 -- P holds of each row if it holds of rows that pass the test p, and all rows pass
 pub each_passes : {R : Type 0} (p : R → Bool) (P : R → Type 0) → ((r : R) → p r ≡ true → P r) → (rows : List R)
     → list_all p rows ≡ true → AllByRecursion P rows

@@ -47,8 +47,6 @@ pub all_pass : {R : Type 0} (p : R → Bool) (P : R → Type 0) → ((r : R) →
 all_pass p P good [] h = refl
 all_pass p P good (r ∷ rows) h = ap (λ b. b && list_all p rows) (good r h.0) ∙ all_pass p P good rows h.1
 
--- ---- numbers that are written and read
-
 -- a number that fits 32 bits, written into a row, is read as itself
 pub written_is_read : (n : ℕ) → n ≤ most_u32 → as_u32 (pos n) ≡ n
 written_is_read n h = min_small n most_u32 h
@@ -266,8 +264,6 @@ module _ {V R : Type 0} (row : ℕ → V → R) (e : R → R → Bool) (apart : 
   unfolding IsDistinct
   rows_apart [] h = tt
   rows_apart (f ∷ es) h = (others f.0 f.1 es h.0, rows_apart es h.1)
-
--- ---- keys in another order
 
 same_symm : (a b : Key) → is_same_key a b ≡ is_same_key b a
 same_symm =

@@ -200,8 +200,8 @@ room_inserted : (units : FinMap nat_cmp Unit) (marks more : RoomySet) (n : ℕ) 
     → set.len more.numbers + len (insert units n w) ≤ more.room
 room_inserted units marks more n w h = let l = insert_adds_at_most_one units n w in let as_many = ap set.len h.same in omega (arith, h.room, l, as_many)
 
--- a dirty set `more` with room for its marks, for each unit and for one more (IsWider) has room to mark any unit n, new
--- or not
+-- a dirty set `more` that has the numbers of `marks`, and room for these, for each unit and for one more (IsWider), has
+-- room to mark any unit n, new or not
 pub fits-new : (units : FinMap nat_cmp Unit) (marks more : RoomySet) (n : ℕ) (w : Unit) → IsWider units marks more
     → set.len (set.insert more.numbers n) ≤ more.room
 fits-new units marks more n w h = fits-inserted units more.numbers more.room n w (room_inserted units marks more n w h)
@@ -212,7 +212,7 @@ HasRoom-added units marks more n w h =
     Room-inserted units more.numbers more.room n w (room_inserted units marks more n w h)
 
 -- The units' invariant (AreUnits) still holds once unit w is put under n, new or not, and n, its row and all its goods
--- are marked. marks2, rows2 and goods2 are the dirty sets with room for their marks, each unit and one more (IsWider).
+-- are marked. marks2, rows2 and goods2 are the same dirty sets, with room for their marks, each unit and one more.
 pub AreUnits-added : (units : FinMap nat_cmp Unit) (marks rows goods marks2 rows2 goods2 : RoomySet) (items skills : MarkedThings) (n : ℕ) (w : Unit)
     → IsWider units marks marks2 → IsWider units rows rows2 → IsWider units goods goods2
     → AreUnits units marks rows goods items skills

@@ -227,7 +227,7 @@ abbrev pub IsAboard : WorldValue → CampaignValue → Unit → Type 0
 IsAboard w c u = (s : Structure) × (get c.structures u.structure ≡ Some s) × (is_ship w s ≡ true)
 
 -- Each unit on water is inside a ship, and each structure on water is a complete ship. A region that the world doesn't
--- have counts as water here.
+-- have, or whose terrain it doesn't have, counts as water here.
 pub record AreAfloat (w : WorldValue) (c : CampaignValue) : Type 0 where
   -- each unit in a region on water is inside a ship
   pub units : Every (λ n u. is_land_at w u.region ≡ false → IsAboard w c u) c.units

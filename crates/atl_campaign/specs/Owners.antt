@@ -44,8 +44,8 @@ abbrev pub with_position : CampaignValue → ℕ → ℕ → ℕ → CampaignVal
 with_position c n r s = unit_changed (λ u. record u { region = r; structure = s }) c n
 
 -- `with_place` once unit n is looked up (the last argument; None: it isn't there, and nothing changes). n is put in
--- region r and structure s. Where that changes its structure, one that n owned gets its next owner (`heir`), and n owns
--- s if s is there and has no owner.
+-- region r and structure s (0: in none). Where that changes its structure, the one that n leaves gets its next owner
+-- (`heir`) if n owned it, and n owns s if s is there and has no owner.
 abbrev pub with_place_at : CampaignValue → ℕ → ℕ → ℕ → Option Unit → CampaignValue
 with_place_at c n r s None = c
 with_place_at c n r s (Some u) =

@@ -243,7 +243,7 @@ impl Regions {
     }
 
     /// Sets how many pieces of an item a region has in stock, and marks nothing. An amount of 0
-    /// takes no memory. Without memory nothing changes.
+    /// isn't listed, which takes no memory. Without memory nothing changes.
     pub(crate) fn put_stock(&mut self, region: u32, item: u32, stock: u32) -> Result<(), AllocError>
         ensures ok { OnOk result
             (self.new.values ≡ with_stock_at self.old.values region item stock) }

@@ -4,7 +4,7 @@
 //! there. To set a name, men, money or the guard flag marks the unit and its row; `insert`, under a
 //! number that no unit has, and `remove` also mark all its goods. If a unit lists an item with 0
 //! pieces, the item is marked whatever it is set to. Where memory runs out, the answer is
-//! AllocError, and after `insert` nothing has changed.
+//! AllocError, and after `insert` nothing has changed. An item or skill set to 0 isn't listed.
 ghost use Rattle.std.specs.Prelude.{◌≡◌, ◌≤◌, ◌⊎◌, IfOk, OnOk, OnErr, option_copied, None};
 ghost use Rattle.std.specs.FinMap as map;
 ghost use Rattle.std.specs.FinSet as set;

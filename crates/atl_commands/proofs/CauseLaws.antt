@@ -20,12 +20,10 @@ use Rattle.atl_commands.specs.Causes.{GivesError, HasCause}
 
 -- if a test chose between two different values, the chosen value shows the test's result
 module _ {F : Type 0} (memory other : F) (apart : memory ≢ other) where
-  -- if the test chose `memory`, it is true
   is_first : (b : Bool) → memory ≡ cond b memory other → b ≡ true
   is_first true is = refl
   is_first false is = absurd (apart is)
 
-  -- if the test chose `other`, it is false
   is_second : (b : Bool) → other ≡ cond b memory other → b ≡ false
   is_second true is = absurd (apart (sym is))
   is_second false is = refl

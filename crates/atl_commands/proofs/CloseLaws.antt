@@ -271,8 +271,6 @@ read_ends w c r rest none (mailings, all, outcome, sent) = record {
   faults = same_entries_map r.faults (faulty_lines_of_mail w c) (sym (append-nil (entries r.faults)) ∙ subst (λ es. entries r.faults ++ faulty_lines_in w es ≡ entries (faulty_lines_of_mail w c)) none outcome);
 }
 
--- ---- the reports, stored one after another
-
 -- lists of the structures and the units by region are still right (`AreRegionLists`) after a report is stored
 pub lists_stay : (w : WorldValue) (faults : ℕ → List FaultyLine) (events : List Event) (c d : CampaignValue) (n : ℕ)
     → d ≡ reported_to w faults events c n → (lists : RegionLists) → AreRegionLists w c lists → AreRegionLists w d lists

@@ -40,8 +40,8 @@ IfTextOrRefused (Text _) P = P
 IfTextOrRefused (Refused _) P = P
 IfTextOrRefused (Fault _) P = ⊤
 
--- A command was answered without a fault: answer and new campaign are those of `step`. If the disk is clean and the
--- tables held the old campaign, they hold the new one.
+-- A command was answered without a fault: answer and new campaign are those of `step`, and this campaign is good. If
+-- the disk is clean and the tables held the old campaign, they hold the new one.
 pub record Answers {S : Type 0} (g : Ghosts S) (w : WorldValue) (before : CampaignValue) (old : Held S)
     (command : Command) (after : CampaignValue) (new : Held S) (answer : Answer) : Type 0 where
   pub step_is : step w before command ≡ (after, answer)

@@ -1,5 +1,7 @@
-//! Answers one command while the service is open: refuses it, or changes campaign and tables.
-//! See docs/RULES.md, "Refusals and faults".
+//! Answers one command while the service is open: refuses it, or changes campaign and tables. Where
+//! a call takes the connection, this has to be in no transaction, and the campaign good; after an
+//! Err of it the campaign in memory may be changed in part, or lost. On a clean disk, tables that
+//! held it before still do, while the connection is open. See docs/RULES.md, "Refusals and faults".
 ghost use Rattle.std.specs.Prelude.{◌≡◌, length, Ok, Err, Some, IfOk, IfErr, OnOk};
 ghost use Rattle.std.specs.FinMap as map;
 ghost use Rattle.atl_words.specs.Header.{IsMailingOf};
@@ -161,7 +163,8 @@ fn mail<S: Alter>(
     Ok(Answer::Mailed { orders, faults })
 }
 
-/// The stored report of a faction, empty if none is stored; or the refusal NoFaction or WrongPass.
+/// The stored report of a faction, empty if none is stored; or the refusal NoFaction, else
+/// WrongPass. AllocError without memory.
 #[tactic(auto, unfolding(crate::specs::Step::step))]
 fn report(
     alloc: Global,
@@ -185,7 +188,7 @@ fn report(
     Ok(Answer::Text(text))
 }
 
-/// Answers one command. After an Err the campaign in memory may be changed in part, or lost.
+/// Answers one command: carries it out, refuses it, or fails with the fault Memory or Store.
 pub(crate) fn answer_to<S: Alter>(
     alloc: Global,
     world: &World,

@@ -1,5 +1,5 @@
-//! Closes a month: reads the mail, runs the phases, stores the reports, writes the tables. See
-//! docs/RULES.md, "Closing a month".
+//! Closes a month: reads the mail, runs the phases, stores the reports, writes the tables. Where
+//! memory runs out, private calls answer AllocError. See docs/RULES.md, "Closing a month".
 ghost use Rattle.std.specs.Prelude.{◌≡◌, ◌<◌, ℕ, IfOk, IfErr, OnOk, length};
 ghost use Rattle.std.specs.FinMap as map;
 ghost use Rattle.atl_words.specs.declared.mail_fault.MailFault.TheVariants.{Memory};
@@ -40,7 +40,7 @@ fn out_of_memory(fault: MailFault) -> AllocError
     AllocError
 }
 
-/// The mailing was read before it was stored, so only memory can run out.
+/// Reads a mailing that a faction may have stored (`IsMailingOf`), so only memory can run out.
 fn read_stored(alloc: Global, world: &World, text: &[u8]) -> Result<Mailing, AllocError>
     requires { (faction : ℕ) × IsMailingOf faction text.now }
     ensures kept { IfOk result (λ m. m.text ≡ text.now) }
@@ -52,7 +52,7 @@ fn read_stored(alloc: Global, world: &World, text: &[u8]) -> Result<Mailing, All
     }
 }
 
-/// Reads the mailing of each faction that has one, in the order of the factions' numbers.
+/// Reads the mailings that a good campaign has, in the order of the factions' numbers.
 fn read_mail(alloc: Global, world: &World, campaign: &Campaign) -> Result<ReadMail, AllocError>
     requires { IsGood world.now campaign.now.value }
     ensures { IfOk result (HasRead world.now campaign.now.value) }
@@ -68,8 +68,9 @@ fn read_mail(alloc: Global, world: &World, campaign: &Campaign) -> Result<ReadMa
     Ok(ReadMail { mailings, faults })
 }
 
-/// Runs the phases, counts the month, removes the mail, and returns what the reports need. If
-/// memory runs out, the campaign may be lost, with a blank one in its place.
+/// Runs the phases, counts the month, removes the mail, marks what changed, and returns what the
+/// reports need. The campaign has to be good, its month below 9,999, and `words` one for each
+/// region. If memory runs out, the campaign may be lost, with a blank one in its place.
 fn turn_month(
     alloc: Global,
     world: &World,
@@ -100,7 +101,8 @@ fn turn_month(
     })
 }
 
-/// Refuses to close with the first that applies of WrongPass, WrongMonth, MonthLimit and WrongDice.
+/// Refuses to close this month of a good campaign with the first that applies of WrongPass,
+/// WrongMonth, MonthLimit and WrongDice. Where none does, the month may be closed (`MayClose`).
 #[tactic(auto, unfolding(crate::specs::Step::step))]
 fn check_close(
     world: &World,
@@ -130,7 +132,10 @@ fn check_close(
     Ok(())
 }
 
-/// Closes the month and writes it, or refuses to. The commit is the last call that can fail.
+/// Closes the month and writes it, or refuses to. The campaign has to be good, and the connection
+/// in no transaction. The commit is the last call that can fail. After an Err the campaign in
+/// memory may be lost. On a clean disk, tables that held the one before still do, while the
+/// connection is open.
 pub(crate) fn close<S: Alter>(
     alloc: Global,
     world: &World,

@@ -1,5 +1,5 @@
-//! Makes and stores reports: the first one of a faction, and all of a month. See docs/RULES.md,
-//! "Reports".
+//! Makes and stores reports: the first one of a faction, and all of a month. AllocError without
+//! memory. See docs/RULES.md, "Reports".
 ghost use Rattle.std.specs.Prelude.{◌≡◌, OnOk, OnErr, unwrap_or, []};
 ghost use Rattle.std.specs.FinMap as map;
 ghost use Rattle.atl_campaign.specs.Covers.{MarksChanges};
@@ -31,8 +31,8 @@ impl Drop for MonthResult {
     }
 }
 
-/// Stores a report of a faction: what it sees (`seen`), `faults`, and its own events among
-/// `events`. After an Err nothing is changed.
+/// Stores and marks a report of a faction: what it sees, which `seen` has to be, `faults`, and its
+/// own events among `events`. After an Err nothing is changed.
 fn store_report_with(
     alloc: Global,
     world: &World,
@@ -54,7 +54,7 @@ fn store_report_with(
     Ok(())
 }
 
-/// Stores the first report of a faction: what it sees. After an Err nothing is changed.
+/// Stores and marks a faction's first report: what it sees. After an Err nothing is changed.
 pub(crate) fn store_first_report(
     alloc: Global,
     world: &World,
@@ -70,7 +70,8 @@ pub(crate) fn store_first_report(
     store_report_with(alloc, world, campaign, &seen, faction, &[], &[])
 }
 
-/// Stores the month's report of one faction. `sorted` has all events of the outcome by faction.
+/// Stores and marks the month's report of one faction. What `lists` has of structures and units has
+/// to be right (`AreRegionLists`), and `sorted` has to have all events of the outcome by faction.
 fn report_to(
     alloc: Global,
     world: &World,
@@ -94,7 +95,8 @@ fn report_to(
     store_report_with(alloc, world, campaign, &seen, faction, faults, events)
 }
 
-/// A report changes no unit and no structure, so `lists` stays right for the next report.
+/// Stores and marks the report of each faction of the outcome, as `report_to` does. A report
+/// changes no unit and no structure, so `lists` stays right for the next one.
 fn report_to_each(
     alloc: Global,
     world: &World,
@@ -115,8 +117,8 @@ fn report_to_each(
     Ok(())
 }
 
-/// Stores a new report for each faction of the outcome. The structures and units of each region and
-/// the events of each faction are listed once for all of them.
+/// Stores and marks a new report for each faction of the outcome. The structures and units of each
+/// region and the events of each faction are listed once for all of them.
 pub(crate) fn report_to_all(
     alloc: Global,
     world: &World,

@@ -83,13 +83,14 @@ impl<S: Alter> Service<S> {
 
     /// Runs one command and returns its answer. A command that is refused, or answered with a
     /// report, changes nothing. After a fault the service is closed: every later command is
-    /// answered Closed and changes nothing. While it is open its books balance. The rest holds if
-    /// the disk is clean. While the service is open the tables hold its campaign, and other tables
-    /// stay as they were. Fault Store means that a call of the write gave another error than out of
-    /// memory. Fault Memory means that one ran out of memory, or that memory ran out before the
-    /// database was asked to write. The tables are as before after either, while the connection is
-    /// open. A crash then leaves the campaign before the command or after it, and a good one. See
-    /// docs/RULES.md, "Joining", "Mail", "Closing a month", "Reports" and "Refusals and faults".
+    /// answered Closed and changes nothing. While it is open its books balance. A disk that isn't
+    /// clean stays so (`IsLater`). The rest holds if the disk is clean. The tables hold an open
+    /// service's campaign. Other tables stay as they were, while the connection is open. Fault
+    /// Store means that a call of the write gave another error than out of memory. Fault Memory
+    /// means that one ran out of memory, or that memory ran out before the database was asked to
+    /// write. After either the tables are as before, while the connection is open. A crash then
+    /// leaves the campaign before the command or after it, and a good one. See docs/RULES.md,
+    /// "Joining", "Mail", "Closing a month", "Reports" and "Refusals and faults".
     pub fn run(&mut self, command: &Command) -> Answer
         ensures runs { Runs S.Store self.old command.now result self.new }
         ensures later { IsLater (state S.Store self.old.conn) (state S.Store self.new.conn) }
@@ -118,8 +119,10 @@ impl<S: Alter> Service<S> {
     }
 
     /// Runs commands in their order, and returns one answer for each; after a fault all later
-    /// answers are Closed. Memory for the answers is allocated first: if there is none, nothing is
-    /// run and nothing changes. The books balance. See docs/RULES.md, "Refusals and faults".
+    /// answers are Closed. Without a fault, answers and campaign of an open service are those of
+    /// `run_of`, and on a clean disk the tables hold that campaign (`HeadlineAt`). Memory for the
+    /// answers is allocated first: if there is none, nothing is run and nothing changes. While the
+    /// service is open its books balance. See docs/RULES.md, "Refusals and faults".
     pub fn run_all(&mut self, commands: &[Command]) -> Result<Vec<Answer>, AllocError>
         ensures runs { IfOk result
             (λ answers. RunsAll S.Store self.old commands.now answers.items self.new) }

@@ -14,8 +14,6 @@ list_after_copy xs from to at l =
 -- xs has all elements of the vector: first the `free` unused ones, then the list. `position` is an index of the list,
 -- or, except in `closed`, its length.
 module _ {A : Type 0} (xs : List A) (free position : ℕ) where
-  -- for closed and opened: index `free + position` of the vector, less its `free` unused elements, is index `position`
-  -- of the list that follows them
   count : free + position - free ≡ position
   count = omega arith
 

@@ -142,7 +142,7 @@ put_again ps n i d s h =
     ∙ ap (λ k. from_entries (insert (slots_of (remove ps i)) i (k, p.slot))) (number_at_index ps n i d h)
     ∙ from_entries-insert (slots_of (remove ps i)) i n p.slot (removed_entry_is_absent ps n i s h)
 
--- the map of sorted index entries has under a number the slot of the entry with this number
+-- the map of sorted index entries has under number n the slot of the entry with this number, which is at index i
 pub get-at_index : (ps : List IndexEntry) (n i : ℕ) (d : IndexEntry) → IsSortedIndex ps → IsAt (index_numbers ps) n i
     → finmap.get (as_map ps) n ≡ Some (get_or ps i d).slot
 get-at_index ps n i d s h =
@@ -150,7 +150,7 @@ get-at_index ps n i d s h =
 
 -- ---- an entry that is inserted
 
--- an entry inserted where its number belongs adds the number with its slot to the map
+-- an entry inserted into sorted index entries where its number belongs adds the number with its slot to the map
 pub map-added : (ps : List IndexEntry) (n i k : ℕ) → IsSortedIndex ps → BelongsAt (index_numbers ps) n i
     → as_map (insert ps i (record { number = n; slot = k })) ≡ finmap.insert (as_map ps) n k
 map-added ps n i k s b =
@@ -165,7 +165,7 @@ sorted-added ps n i k s b =
 
 -- ---- an entry that is removed
 
--- removing the index entry of number n removes n from the map
+-- removing the entry of number n from sorted index entries removes n from the map
 pub map-without : (ps : List IndexEntry) (n i : ℕ) → IsSortedIndex ps → IsAt (index_numbers ps) n i
     → as_map (remove ps i) ≡ finmap.remove (as_map ps) n
 map-without ps n i s h =
@@ -178,12 +178,10 @@ pub sorted-without : (ps : List IndexEntry) (n i : ℕ) → IsSortedIndex ps →
 sorted-without ps n i s h =
     rw (map-remove (λ (p : IndexEntry). p.number) ps i) (sorted-remove (index_numbers ps) i s h.within)
 
--- removing a number that no index entry has leaves the map as it is
+-- where number n belongs at an index of sorted index entries, so that none has it, removing n leaves the map as it is
 pub map-missing : (ps : List IndexEntry) (n i : ℕ) → IsSortedIndex ps → BelongsAt (index_numbers ps) n i
     → as_map ps ≡ finmap.remove (as_map ps) n
 map-missing ps n i s b = sym (remove_none (as_map ps) n (get-belongs ps n i s b))
-
--- ---- the whole index
 
 pub sorted-none : IsSortedIndex []
 sorted-none = sorted-empty

@@ -75,8 +75,6 @@ IsSorted-take n (x ∷ xs) h =
     either rest true = h.1
     either rest false = (take_least x n xs h.0, rest)
 
--- ---- nat_lt and nat_le of two numbers
-
 pub not_above : (n x : ℕ) → nat_lt x n ≡ true → nat_le n x ≡ false
 not_above n x h = grind (arith, nat_tests)
 

@@ -297,7 +297,7 @@ HasAll = Begins table_count index_count
 abbrev pub all_trees : List ℕ
 all_trees = map (λ t. t.tree) all_tables
 
--- The trees list what the schema has, and their rows keep its rules (`IsSound`).
+-- The trees list the schema and obey it (`IsSound`).
 -- In each of the ten tables the rowids are integers, no two alike.
 pub record IsSoundDatabase (schema : Schema) (db : Trees) : Type 0 where
   pub keyed : (table : Table) → Has all_tables table → AreKeyedByRowid (db table.tree)

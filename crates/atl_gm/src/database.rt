@@ -128,7 +128,7 @@ fn options_for(rt: &HostRuntime, pages: u64) -> Result<Options, Failure> {
 
 /// Opens the database file at `path` and its log, and makes those that are missing. Both are then
 /// usable: they are open, and none of their flushes to the disk has failed. `start` says what is
-/// supposed of a crash. A path that SQLite would read in another way is refused.
+/// supposed of a crash. A path that SQLite would read in another way is refused with Store.
 fn open_files<S: Start>(
     rt: &HostRuntime,
     path: &str,

@@ -1,4 +1,5 @@
-//! Writes the reply to the answer of a command: status and body. See docs/FORMATS.md, "HTTP".
+//! Writes the reply to the answer of a command: status and body. AllocError without memory for the
+//! reply's bytes. See docs/FORMATS.md, "HTTP".
 ghost use Rattle.std.specs.Prelude.{◌≡◌, IfOk};
 ghost use Rattle.atl_requests.specs.Io.{MatchesReply};
 ghost use Rattle.atl_http.specs.Answered.{refusal_status, answer_reply};

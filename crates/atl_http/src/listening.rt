@@ -24,8 +24,9 @@ pub enum ListenFault {
     Memory,
 }
 
-/// A connection whose peer ends it or is too slow counts as served. The contract says how the
-/// service is left, and nothing of the bytes that the peer sends and gets.
+/// Serves the request of one connection; Memory if memory ran out for it. A connection whose peer
+/// ends it or is too slow counts as served. The contract says how the service is left, and nothing
+/// of the bytes that the peer sends and gets.
 fn serve_stream<C: Clock, S: Alter>(
     alloc: Global,
     clock: &C,

@@ -69,7 +69,7 @@ module _ {holds : Condition} {fit : Type 0} (w : WorldValue) (c : CampaignValue)
   pub keeps_all : OrderKeeps holds fit w c n f c
   keeps_all = keeps_others c (λ h fits. well_same w c h) (λ k apart. refl)
 
-  -- an order, with a fault or without, keeps `holds`, the books and the other units (`OrderKeeps`), if its effect
+  -- an order, with a fault or without, keeps `holds`, month, books and the other units (`OrderKeeps`), if its effect
   -- without a fault, campaign d and outcome o, does
   pub keeps_unless : (fault : Option EventFault) (d : CampaignValue) (o : Outcome)
       → (fault ≡ None → OrderKeeps holds fit w c n f d) → OrderKeeps holds fit w c n f (fault_or c fault (d, o)).0
@@ -83,8 +83,8 @@ StepKeeps holds step =
     (w : WorldValue) (a : Aliases) (c : CampaignValue) (t : Task) (x : Unit) → IsUnitOf c t x → IfSome (step w a t)
     (λ effect. OrderKeeps holds (AreOperandsOf w t.order_value.operands) w c t.unit x.faction (effect c x).0)
 
--- a phase is orderly (`IsOrderly`), if the effect of each order keeps `holds`, the books and the other units
--- (`OrderKeeps`), and the phase passes over a unit's own order that doesn't affect the unit
+-- a phase is orderly (`IsOrderly`), if each order for a unit of its writer's faction keeps `holds`, month, books and
+-- the other units (`StepKeeps`), and the phase passes over a unit's own order that doesn't affect the unit
 pub orderly_by : {holds : Condition} {step : OrderMeaning} {affects : Affects} → StepKeeps holds step
     → ((w : WorldValue) (a : Aliases) (t : Task) (n f : ℕ) → IsOwnOrder t n f → (affects t n f → ⊥) → step w a t ≡ None)
     → IsOrderly step holds nothing_remaining moves_nothing affects IsNoWorse
@@ -128,8 +128,8 @@ module _ (c : CampaignValue) (from to : ℕ) (u v : Unit) (h k : HoldingValue) (
   receiver_still : get between.units to ≡ Some v
   receiver_still = get-insert_other c.units from to (record u { holding = h }) apart ∙ receiver
 
-  -- Campaign d is c with x, which is h, as what the giver holds. Campaign e is d with y, which is k, as what the
-  -- receiver holds. Then e is the campaign `moved`, since `to` isn't `from`.
+  -- Campaign d is c with x, which is h, as what the giver holds. If d has the receiver (v), campaign e is d with y,
+  -- which is k, as what the receiver holds. Then e is the campaign `moved`, since `to` isn't `from`.
   pub moved_is : (d e : CampaignValue) (x y : HoldingValue) → x ≡ h → y ≡ k → d ≡ with_holding_at c from x (Some u)
       → (get d.units to ≡ Some v → e ≡ with_holding_at d to y (Some v)) → e ≡ (if to == from then c else moved)
   moved_is d e x y x_is y_is first second =

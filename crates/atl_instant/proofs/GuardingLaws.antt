@@ -148,8 +148,6 @@ pub flag_marks : (c d : MarkedCampaign) (n : ℕ) (flag : Bool) → d.value ≡ 
 flag_marks c d n flag what marks =
     marks_by c d (record { value = with_guard c.value n flag; marks = mark_unit_row c n }) what marks (marks-unit_row (λ u. record u { holding = record u.holding { guard = flag } }) (λ u. refl) c n)
 
--- ---- one order
-
 guard_kept : {fit : Type 0} (w : WorldValue) (c : CampaignValue) (n : ℕ) (u : Unit) → get c.units n ≡ Some u
     → OrderKeeps IsSteady fit w c n u.faction (guard n c u).0
 unfolding guard

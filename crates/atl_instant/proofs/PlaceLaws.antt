@@ -41,8 +41,6 @@ module _ (fit : Type 0) (w : WorldValue) (c : CampaignValue) (n : ℕ) (u : Unit
   abbrev KeepsOthersByPlace : CampaignValue → Type 0
   KeepsOthersByPlace d = OrderKeeps IsEarly fit w c n u.faction d
 
-  -- ---- LEAVE
-
   left : KeepsOthersByPlace (leave w n c u).0
   unfolding leave
   left =

@@ -309,7 +309,7 @@ pub room_after_loss : (t : Thing) (amount : ℕ) (next : BookBound) (c : Campaig
 room_after_loss t amount next c room =
     booked-room c.books (loss_entry t) t (neg_ℤ (pos amount)) amount (within-neg amount amount (omega arith)) next room
 
--- books with room for the items from i on have room for the item at i and those after it, as one list
+-- books with room for the loss of the items from i on have room for that of the item at i and those after, as one list
 pub room_for_item_and_later : (xs : List (ℕ × ℕ)) (i : ℕ) (c : CampaignValue) → i < length xs
     → HaveRoom (items_bound (drop i xs)) c
     → HaveRoom (items_bound (get_or xs i (0, 0) ∷ drop (i + 1) xs)) c
@@ -346,7 +346,6 @@ held_room c n u is room =
 
 -- ---- a unit that leaves
 
--- other books in a campaign leave its total of each thing as it is, since the total counts no books
 books_leave_total : (c : CampaignValue) (books : BooksValue) (t : Thing)
     → total (record c { books = books }) t ≡ total c t
 unfolding total

@@ -37,8 +37,7 @@ module _ (c : CampaignValue) where
     abbrev IsOwn : Unit → Type 0
     IsOwn u = guards u ≡ true → u.region ≡ region → u.faction ≡ faction
 
-    -- the map keeps the faction of a region when a unit is noted,
-    -- if the unit is of that faction or doesn't guard the region
+    -- the map keeps the faction of a region when a unit is noted, if the unit is of that faction or doesn't guard there
     one_stays : (m : GuardMap) (u : Unit) → IsOwn u → get m region ≡ Some faction
         → get (with_guard_of m u) region ≡ Some faction
     one_stays m u own at = by_test (guards u) own

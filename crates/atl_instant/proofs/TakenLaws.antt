@@ -1,8 +1,9 @@
 -- Laws of the events of the phases from FORM to TRANSFER, of GUARD 1 and of QUIT: each gives an event to each of its
 -- orders. The phases of NAME and of GUARD 1 both get the orders of GUARD, and each passes over those of the other.
--- `Gives` says which reports a phase adds for order t, where `counts` says whether t counts in its mailing. It supposes
--- that the mailings can be read with the world, and says that the phase keeps mailings and aliases. A report is what an
--- event says of its order. Operands have the shape of a verb (`Fits`) if they are of the form that it takes.
+-- `Gives` says which reports a phase adds for the faction and line of an order t of a mailing, where `counts` says
+-- whether t counts there. It supposes that the mailings can be read with the world, and says that the phase keeps
+-- mailings and aliases. A report is what an event says of its order. Operands have the shape of a verb (`Fits`) if they
+-- are of the form that it takes.
 use Rattle.std.proofs.Common.{◌≡◌, ◌&&◌, ◌++◌, Bool, true, false, not, map, filter, is_some, refl, ap, ◌∙◌}
 use Rattle.std.proofs.lemmas.List.{map-append}
 use Rattle.std.proofs.lemmas.List.Elements.{filter-append}

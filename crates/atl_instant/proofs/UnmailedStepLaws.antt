@@ -1,7 +1,7 @@
--- Laws of the phases from FORM to QUIT, each of which keeps the mailings. If a phase keeps what its specification says,
--- each unit of a faction without a mailing is still there after it. It has its faction and name, no less of any item,
--- and its men less the starved. `LeavesUnmailed` says this of a phase's effect, and `PhaseLeavesUnmailed` of its
--- specification. The starved are the men whom the phase's Starved events report; these phases report none.
+-- Laws of the phases from FORM to QUIT, each of which keeps the mailings and takes back no Starved event. If a phase
+-- keeps what its specification says, each unit of a faction without a mailing is still there after it, with its faction
+-- and name, no less of any item, and its men less the starved. `LeavesUnmailed` says this of a phase's effect, and
+-- `PhaseLeavesUnmailed` of its specification. The starved are those whom the phase's Starved events report: none here.
 use Rattle.std.proofs.Common.{◌≡◌, ℕ, List, [], ◌∷◌, refl, sym, ◌∙◌, arith}
 use Rattle.std.specs.Prelude.{IfSome, fold}
 use Rattle.atl_lines.specs.declared.order.Operands.TheVariants as operands

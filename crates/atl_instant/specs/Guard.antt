@@ -32,7 +32,7 @@ guards_against faction (Some v) = guards v && not (v.faction == faction)
 abbrev pub is_guarded_against : CampaignValue → (region faction : ℕ) → Bool
 is_guarded_against c region faction = list_any (λ n. guards_against faction (get c.units n)) (numbers_in_region region c.units)
 
--- why a unit can't begin to guard its region: NoMen where it has none, or Guarded where another faction guards the
+-- why a unit can't begin to guard its region: NoMen where it has none, else Guarded where another faction guards the
 -- region; None where it can
 abbrev pub guard_fault : CampaignValue → Unit → Option EventFault
 guard_fault c u = first_fault ((u.holding.men == 0, NoMen) ∷ (is_guarded_against c u.region u.faction, Guarded) ∷ [])
@@ -56,6 +56,6 @@ abbrev pub guard_affects : Affects
 guard_affects t number faction = IsOwnOrder t number faction × (t.order_value.operands ≡ operands.Flag true)
 
 -- The specification of the phase of GUARD 1: it carries its orders out one by one, and books nothing. A unit for which
--- its own faction wrote no GUARD 1 is still there, and no worse off.
+-- no GUARD 1 of its own faction counts is still there, and no worse off.
 abbrev pub guard_spec : PhaseSpec
 guard_spec = goes_by_orders guard_step is_guarding guard_affects IsNoWorse

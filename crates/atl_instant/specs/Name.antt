@@ -33,7 +33,7 @@ abbrev pub is_structure_of_kind : WorldValue → (ship : Bool) → Structure →
 is_structure_of_kind w ship s = if ship then is_ship w s else not (is_ship w s)
 
 -- Why unit n can't name the ship (where `ship` is true) or the building that it is inside; None where it can. It is
--- NotInside where what it is inside (None: nothing) is no such structure, or NotOwner where n doesn't own it.
+-- NotInside where what it is inside (None: nothing) is no such structure, else NotOwner where n doesn't own it.
 abbrev pub structure_fault : WorldValue → ℕ → (ship : Bool) → Option Structure → Option EventFault
 structure_fault w n ship None = Some NotInside
 structure_fault w n ship (Some s) = first_fault ((not (is_structure_of_kind w ship s), NotInside) ∷ (not (s.owner == n), NotOwner) ∷ [])
@@ -77,6 +77,6 @@ abbrev pub name_affects : Affects
 name_affects t number faction = IsOwnOrder t number faction × (t.order_value.operands ≢ operands.Flag true)
 
 -- The specification of the phase of NAME and GUARD 0: it carries its orders out one by one, and books nothing. A unit
--- for which its own faction wrote no NAME or GUARD 0 is still there, and no worse off.
+-- for which no NAME or GUARD 0 of its own faction counts is still there, and no worse off.
 abbrev pub name_spec : PhaseSpec
 name_spec = goes_by_orders name_step is_naming name_affects IsNoWorse

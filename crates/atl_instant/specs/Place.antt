@@ -31,8 +31,8 @@ is_placing verbs.Enter = true
 is_placing verbs.Promote = true
 is_placing verb = false
 
--- why a unit can't leave the structure that it is inside: NotInside where it is inside none, or AtSea where its region
--- is water; None where it can
+-- why a unit can't leave the structure that it is inside: NotInside where it is inside none, else AtSea where its
+-- region is water; None where it can
 abbrev pub leave_fault : WorldValue → Unit → Option EventFault
 leave_fault w u = first_fault ((u.structure == 0, NotInside) ∷ (not (is_land_at w u.region), AtSea) ∷ [])
 
@@ -86,6 +86,6 @@ abbrev pub place_step : OrderMeaning
 place_step w a t = place_effect w a t.faction t.unit t.order_value.operands
 
 -- The specification of the phase of LEAVE, ENTER and PROMOTE: it carries its orders out one by one, and books nothing.
--- A unit for which its own faction wrote no LEAVE, ENTER or PROMOTE is still there, and no worse off.
+-- A unit for which no LEAVE, ENTER or PROMOTE of its own faction counts is still there, and no worse off.
 abbrev pub place_spec : PhaseSpec
 place_spec = goes_by_orders place_step is_placing IsOwnOrder IsNoWorse

@@ -108,6 +108,6 @@ abbrev pub transfer_step : OrderMeaning
 transfer_step w aliases t = transfer_effect aliases t.faction t.unit t.order_value.operands
 
 -- The specification of the phase of TRANSFER: it carries its orders out one by one, and books nothing. A unit for which
--- its own faction wrote no TRANSFER is still there, and no worse off.
+-- no TRANSFER of its own faction counts is still there, and no worse off.
 abbrev pub transfer_spec : PhaseSpec
 transfer_spec = goes_by_orders transfer_step is_transferring IsOwnOrder IsNoWorse

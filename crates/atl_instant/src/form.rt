@@ -63,8 +63,8 @@ fn new_unit(
     })
 }
 
-/// Adds a unit of this faction in region and structure of unit `parent`, and returns its number,
-/// the next one. Before it no unit has this number, which is at most LAST_UNIT.
+/// Adds a unit of this faction in region and structure of unit `parent`, both 0 if it isn't there,
+/// and returns its number, the next one. Before it no unit has this number, at most LAST_UNIT.
 fn add_formed_unit(
     alloc: Global,
     campaign: &mut Campaign,

@@ -63,7 +63,7 @@ fn give_fault(
     (!itself && total > u64::from(HOLDING_LIMIT)).then_some(EventFault::NoRoom)
 }
 
-/// Sets how much of the gift unit `number`, if it is there, holds, to at most HOLDING_LIMIT.
+/// Sets what unit `number`, if it is there, has of the gift to `amount`, at most HOLDING_LIMIT.
 fn set_held(campaign: &mut Campaign, number: u32, gift: Gift, amount: u32) -> Result<(), AllocError>
     requires { amount ≤ holding_limit }
     ensures { OnOk result (ChangesHolding campaign.old campaign.new number

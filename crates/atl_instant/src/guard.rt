@@ -1,5 +1,6 @@
 //! GUARD 1: a unit begins to guard its region. Before and after each order, `holders` says which
-//! faction guards each region. What changes is marked. See docs/RULES.md, "Guarding".
+//! faction guards each region. What changes is marked, and no mark is lost. Without memory the
+//! campaign may be changed in part. See docs/RULES.md, "Guarding".
 ghost use Rattle.std.specs.Prelude.{◌≡◌, IfOk, OnOk};
 ghost use Rattle.atl_orders.specs.Bounds.{shape_of};
 ghost use Rattle.atl_world.specs.Verbs.{row_of};
@@ -26,6 +27,7 @@ use std::alloc::{AllocError, Global};
 #[derive(Drop, Clone, Copy)]
 pub struct GuardPhase;
 
+/// The fault of GUARD 1 for a unit, in any campaign whose guards `holders` has.
 fn guard_fault(holders: &RegionGuards, unit: &Unit) -> Option<EventFault>
     ensures { (c : CampaignValue) → AreRegionGuards c holders.now
         → result ≡ guard_fault c unit.now }
@@ -86,7 +88,8 @@ fn carry_out(
     }
 }
 
-/// Carries out an order with operands of GUARD's form, and adds its event; GUARD 0 has none.
+/// Carries out an order with operands of GUARD's form, and adds its event; GUARD 0 has none. This
+/// is what the definition makes with any world, of any month with the events so far.
 fn guard_one(
     campaign: &mut Campaign,
     holders: &mut RegionGuards,

@@ -1,6 +1,7 @@
 //! NAME and GUARD 0: units give names, and stop guarding. See docs/RULES.md, "Name". What changes
 //! is marked, and no mark is lost. Such an order for a unit that isn't there, or is another
-//! faction's, is NotYours and changes nothing.
+//! faction's, is NotYours and changes nothing. `inside` is the structure that `unit` is inside.
+//! Without memory the answer is AllocError.
 ghost use Rattle.std.specs.Prelude.{◌≡◌, IfOk, IsTrue, OnOk};
 ghost use Rattle.std.specs.FinMap as map;
 ghost use Rattle.atl_world.specs.Names.{name_ok};

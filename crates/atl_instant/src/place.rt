@@ -1,6 +1,7 @@
 //! LEAVE, ENTER and PROMOTE: units leave structures, enter them, and hand them over to other units.
 //! See docs/RULES.md, "Place". What changes is marked, and no mark is lost. Such an order for a
-//! unit that isn't there, or is another faction's, is NotYours and changes nothing.
+//! unit that isn't there, or is another faction's, is NotYours and changes nothing. Without memory
+//! the campaign may be changed in part.
 ghost use Rattle.std.specs.Prelude.{◌≡◌, IfOk, OnOk};
 ghost use Rattle.std.specs.FinMap as map;
 ghost use Rattle.atl_campaign.specs.Covers.{MarksChanges};

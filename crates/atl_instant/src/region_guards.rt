@@ -55,7 +55,7 @@ impl RegionGuards {
         Ok(())
     }
 
-    /// Enters a faction as the guard of a region, instead of one that is there.
+    /// Enters a faction as the guard of a region, in place of any. AllocError without memory.
     pub(crate) fn set(&mut self, region: u32, faction: u32) -> Result<(), AllocError>
         ensures { OnOk result (self.new ≡ map.insert self.old region faction) }
     {

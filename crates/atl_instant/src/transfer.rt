@@ -1,6 +1,7 @@
 //! TRANSFER: men move from one unit to another. See docs/RULES.md, "Transferring". What changes is
 //! marked, and no mark is lost. Without memory the campaign may be changed in part. Such an order
-//! for a unit that isn't there, or is another faction's, is NotYours and changes nothing.
+//! for a unit that isn't there, or is another faction's, is NotYours and changes nothing. Days are
+//! in their limits if of each skill that a unit lists it has from 1 day to 450 for each man.
 ghost use Rattle.std.specs.Prelude.{◌≡◌, ◌≢◌, ◌≤◌, ◌+◌, ◌*◌, IfOk, OnOk, Some, true};
 ghost use Rattle.std.specs.FinMap as map;
 ghost use Rattle.std.specs.Option.{option_copied};

@@ -99,16 +99,12 @@ module _ {V : Type 0} (line : ℕ → V → Row) (marks : FinSet nat_cmp) (heads
   rest_same before after old same =
       rest_numbered before after old (same_follows before after same) (same_followed before after same)
 
--- ---- regions, whose stocks are in the table `market`
-
 -- the look-up `p` gives a region with the same row as region `v` of the look-up `o`, if the two differ in stocks alone
 unstocked_same : (n : ℕ) (o p : Option Region) (v : Region) → option_map unstocked p ≡ option_map unstocked o
     → o ≡ Some v → (w : Region) × (p ≡ Some w) × (row_of_region n w ≡ row_of_region n v)
 unstocked_same n o None v same there = absurd (let e = same ∙ ap (option_map unstocked) there in cc)
 unstocked_same n o (Some w) v same there =
     (w, refl, let e : unstocked w ≡ unstocked v = (let s = same ∙ ap (option_map unstocked) there in cc) in ap (row_of_region n) e)
-
--- ---- units, whose items and skills are in the table `has`
 
 -- the look-up `p` gives a unit with the same row as unit `v` of look-up `o`, if they differ in items and skills alone
 bare_same : (n : ℕ) (o p : Option Unit) (v : Unit) → option_map without_goods p ≡ option_map without_goods o
@@ -139,8 +135,6 @@ goods_follow one other marks r same not_marked of =
     let amount = amount_under one had.0 had.1 had.2 in
     let is : amount ≡ amount_under other had.0 had.1 had.2 = ap (λ (o : Option ℕ). unwrap_or o 0) (sym (same had.1 had.0 had.2 (sym (goods_row_marked marks had.0 had.1 had.2 amount) ∙ ap (goods_marked marks) (sym had.4) ∙ not_marked))) in
     subst (HasRowsOf other) (sym had.4) (amount_has_row other had.0 had.1 had.2 amount is had.3)
-
--- ---- stocks
 
 stocks_follow : (one other : FinMap nat_cmp Region) (marks : Marks) (r : Row)
     → ((n item : ℕ) → is_thing_marked marks.stocks marks.stock_items n item ≡ false → stock_in other n item ≡ stock_in one n item)

@@ -40,8 +40,6 @@ use Rattle.atl_writing.proofs.ArriveLaws.{put_rows, no_goods, written_amount_cha
 use Rattle.atl_writing.proofs.WholeLaws.{inside_then, inside_weaker}
 use Rattle.atl_world.proofs.TrackLaws.{get_inserted}
 
--- ---- one booking changes one amount
-
 others_booked : (books : BooksValue) (e : BooksEntry) (t : Thing) (n : ℤ) (f : BooksEntry) (u : Thing)
     → (entry_index f ≢ entry_index e) ⊎ (thing_index u ≢ thing_index t)
     → amount_in (after_booking books e t n) f u ≡ amount_in books f u
@@ -243,7 +241,7 @@ module _ (n : ℕ) (f : Faction) (m : ℕ) (u : Unit) (report : List ℕ) (after
           (λ (c : CampaignValue). HasExactly (rows_in (table_of part) d.trees) (rows_for (row_of_campaign text c) c part))
           (sym joining.7) (stays part refl)
 
--- the campaign row, the faction's row and the unit's row are put, if they are put one after another
+-- the campaign row, the faction's row and its unit's row are put, if this is done one after another
 pub enrolling_done : (n : ℕ) (f : Faction) (m : ℕ) (u : Unit) (after : CampaignValue) (world : List ℕ) (start one two three : State)
     → DoesInside HasTables (PutsCampaignRow (campaign_row_of after) world) start one
     → DoesInside HasTables (Puts faction_table 1 (row_of_faction n f)) one two
@@ -254,7 +252,7 @@ enrolling_done n f m u after world start one two three first second third =
     let units = Puts unit_table 1 (row_of_unit m u) in
     inside_then HasTables (PutsCampaignRow (campaign_row_of after) world) (DoesBoth factions units) start one three first (inside_then HasTables factions units one two three second third)
 
--- the report's row is put and both amounts are written, if this is done one after another
+-- the report's row is put and the amounts of money and people under joining are written, if one is done after another
 pub reporting_done : (n : ℕ) (report : List ℕ) (after : CampaignValue) (start one two three : State)
     → DoesInside HasTables (Puts report_table 1 (report_row n report)) start one
     → DoesInside HasTables (WritesAmount after Joining Money) one two
@@ -265,8 +263,8 @@ reporting_done n report after start one two three first second third =
     let people = WritesAmount after Joining People in
     inside_then HasTables (Puts report_table 1 (report_row n report)) (DoesBoth money people) start one three first (inside_then HasTables money people one two three second third)
 
--- To put campaign row, faction and unit, and then to write the report and both amounts, writes the join (`WritesJoin`).
--- For this all of these are in `after` (`HasArrivalWith`).
+-- To put campaign row, faction and unit, and then report and amounts of money and people, writes the join
+-- (`WritesJoin`). For this `after` has the faction, its report and its unit, which came last (`HasArrivalWith`).
 pub joining_done : (n : ℕ) (f : Faction) (m : ℕ) (u : Unit) (report : List ℕ) (after : CampaignValue) (world : List ℕ) (start one two : State)
     → HasArrivalWith after n f m u report
     → DoesInside HasTables (DoesBoth (PutsCampaignRow (campaign_row_of after) world) (DoesBoth (Puts faction_table 1 (row_of_faction n f)) (Puts unit_table 1 (row_of_unit m u)))) start one

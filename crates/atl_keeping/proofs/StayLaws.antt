@@ -34,7 +34,8 @@ held_campaign_is_stored db text c has rows =
 
 -- `settled` says that of an open connection a crash leaves the last commit
 module _ (old new : State) (text : List ℕ) (settled : (db : Trees) → IsTrue new.is_open → new.may_leave db → db ≡ new.committed.trees) where
-  -- after a commit the connection keeps the campaign that the transaction wrote, if the tables were as `Before` says
+  -- After a commit the connection keeps the campaign `after`. For this the tables were as `Before` says, and hold
+  -- `after` once `Does` is done to them.
   pub commits_keeps : (Before : Database → Type 0) (Does : Database → Database → Type 0) (after : CampaignValue)
       → Commits Before Does old new → Before old.now → (Does old.now new.now → Holds new.now.trees text after)
       → Keeps new text after
@@ -50,8 +51,8 @@ module _ (old new : State) (text : List ℕ) (settled : (db : Trees) → IsTrue 
         crash = λ db may. subst (λ t. Stores t text after) (sym (settled db done.is_open may ∙ ap (λ (d : Database). d.trees) done.committed)) (held_campaign_is_stored new.now text after did.tables rows);
       }
 
-  -- On a clean disk a failed transaction (`LeavesOff`, `Survives`) leaves the campaign that was kept, `before`. A crash
-  -- leaves this one or the one that `Does` makes the tables hold, `after` (`LeavesAfterFault`).
+  -- After a failed transaction (`LeavesOff`, `Survives`) on a clean disk, the connection, while it is open, keeps the
+  -- campaign that it kept, `before`. A crash leaves this or `after`, which `Does` makes the tables hold.
   pub leaves_stops : (Does : Database → Database → Type 0) (before after : CampaignValue) → HasCleanDisk new
       → LeavesOff old new → Survives old new (MayLeave HasTables Does old) → Keeps old text before
       → ((db : Database) → Does old.now db → Holds db.trees text after)
@@ -85,8 +86,8 @@ may_found old new text c Before Does before holds clean survives db may = elim (
   | inr made ↦ let did = made.1 before in inr (subst (λ t. Stores t text c) (sym made.2) (held_campaign_is_stored made.0 text c did.tables (holds made.0 did.does)))
 ]
 
--- on a clean disk a failed transaction (`LeavesOff`, `Survives`) changes nothing, if the connection was in none before
--- and nothing was uncommitted
+-- on a clean disk a failed transaction (`LeavesOff`, `Survives`) changes nothing while the connection is open
+-- (`ChangesNothing`), if the connection was in none before, and all was committed while it was open
 pub failed_changes_nothing : (old new : State) (Commits : Trees → Type 0) → HasCleanDisk new → LeavesOff old new
     → Survives old new Commits → old.in_transaction ≡ false → (IsTrue old.is_open → old.now ≡ old.committed)
     → ChangesNothing old new
@@ -113,7 +114,8 @@ module _ {S : Type 0} (g : Ghosts S) (text : List ℕ) (c : CampaignValue) (old 
       go true same = absurd cc
       go false same = absurd cc
 
-  -- an error of the database during `create` gives the fault that `create` may return for it (`RefusesToCreate`)
+  -- if the result is Err with the fault of the error `e`, `create` may return this fault (`RefusesToCreate`); a premise
+  -- is that on a clean disk one of its statements, or its commit, gave `e` (`Gives`)
   pub refused_with : (e : Error) (r : Result (Unit {0}) CreateFault) → IsErrAnd r (λ f. f ≡ create_fault e)
       → (HasCleanDisk (state g new) → Gives g (OfFounding text c) e old new)
       → IfErr r (RefusesToCreate g text c old new)
@@ -122,8 +124,8 @@ module _ {S : Type 0} (g : Ghosts S) (text : List ℕ) (c : CampaignValue) (old 
       refused_by_fault f (λ none. never_not_empty e (sym says ∙ none))
       (record { ready = ready; reports_error = λ clean. (e, says, gave clean) })
 
--- if a transaction of the statements `own` gave an error, and the result's fault is what `fault_of` makes of it, this
--- error is the fault's cause (`IsFaultOfError`)
+-- if a transaction of the statements `own` gave the error `e` (`Gives`), and the result `r` is Err with what `fault_of`
+-- makes of it, this error is the fault's cause (`IsFaultOfError`)
 pub error_of : {S F A : Type 0} (g : Ghosts S) (own : Statements) (fault_of : Error → F) (old new : Held S) (e : Error) (r : Result A F)
     → IsErrAnd r (λ f. f ≡ fault_of e) → Gives g own e old new → IfErr r (IsFaultOfError g own fault_of old new)
 error_of g own fault_of old new e (Ok a) says gave = tt

@@ -112,8 +112,9 @@ pub record BreaksOffCreation {S : Type 0} (g : Ghosts S) (text : List ℕ) (c : 
   pub reports_error : HasCleanDisk (state g new) → IsFaultOfError g (OfFounding text c) create_fault old new fault
 
 -- When `create` may return each fault: NotEmpty if there is a table `campaign`; Store if there is none, and the
--- database isn't ready. Then nothing at all is changed. Store and Memory also come if `create` broke off: on a clean
--- disk this changes nothing, and a crash leaves what it could have left before, or the campaign (`FailsToCreate`).
+-- database isn't ready. Then nothing at all is changed. Store and Memory also come if `create` broke off. On a clean
+-- disk nothing is then changed while the connection is open, and a crash leaves what it could have left before, or the
+-- campaign (`FailsToCreate`).
 abbrev pub RefusesToCreate : {S : Type 0} → Ghosts S → List ℕ → CampaignValue → Held S → Held S → CreateFault → Type 0
 RefusesToCreate g text c old new NotEmpty = IsTrue (has_campaign old.schema) × (new ≡ old)
 RefusesToCreate g text c old new Store =

@@ -19,14 +19,14 @@ use atl_writing::write_marked;
 use sqlite::{Alter, Connection};
 
 /// Writes what is marked of a campaign, in one transaction, into a database that holds the rest of
-/// it (`HoldsUnmarked`), such as one that holds a campaign which differs only in what is marked
+/// it (`HoldsUnmarked`), such as one with a campaign that differs only in what is marked
 /// (`Covers`). Whatever it has under marked keys, the campaign's rows are put and all others there
 /// are deleted; no other row is touched. With Ok the database holds the campaign, and nothing of it
-/// is marked. `conn` has to be in no transaction, and the books may have no more things than a
-/// world can have. Memory: the database says that it has none. Store: it gives another error. After
-/// a fault the tables are as at the last commit while the connection is open, a crash leaves what
-/// it could have left before or the campaign, and the marks stay. All of this but the marks is
-/// promised on a clean disk (docs/PROVED.md, "Premises"). See docs/FORMATS.md, "Tables".
+/// is marked. `conn` has to be in no transaction, and is in none after; the books may have no more
+/// things than a world can have. Memory: the database says that it has none. Store: it gives
+/// another error. After a fault the tables are as at the last commit while the connection is open,
+/// a crash leaves what it could have left before or the campaign, and the marks stay. All but the
+/// marks is promised on a clean disk (docs/PROVED.md, "Premises"). See docs/FORMATS.md, "Tables".
 pub fn write_changes<S: Alter>(
     conn: &mut Connection<S>,
     campaign: &mut Campaign,

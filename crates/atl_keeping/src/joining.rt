@@ -1,7 +1,7 @@
-//! Writes the rows of a faction's joining into the tables. See docs/RULES.md, "Joining". A step
-//! does so on a clean disk, if there are a campaign's tables (`HasTables`) and `arrival` is what
-//! joined `campaign` (`HasArrivalWith`). On a clean
-//! disk Err has the error of a statement.
+//! Writes the rows of a faction's joining into the tables. See docs/RULES.md, "Joining". With Ok a
+//! function did so, if the disk is clean and there are a campaign's tables (`HasTables`). `arrival`
+//! has to be what joined `campaign` (`HasArrivalWith`). On a clean disk Err has the error of a
+//! statement or of the commit.
 ghost use Rattle.std.specs.Prelude.{◌≡◌, [], false, List, ℕ, IfErr, OnOk, OnErr};
 ghost use Rattle.sqlite.specs.Held.{state};
 ghost use Rattle.sqlite.specs.State.{HasCleanDisk};
@@ -110,6 +110,7 @@ fn put_joining<S: Alter>(
     put_report_and_amounts(tx, campaign, arrival)
 }
 
+/// Writes the join in one transaction; `conn` has to be in none before.
 fn write_joining<S: Alter>(
     conn: &mut Connection<S>,
     campaign: &Campaign,
@@ -129,11 +130,11 @@ fn write_joining<S: Alter>(
 /// Writes a join into a database that holds the campaign before it, in one transaction: the
 /// campaign row, the faction, its unit and its report, and what joining booked. `campaign` has to
 /// be the one after the join of `faction`, with this faction's first report stored (`HasArrival`,
-/// `IsJoining`); `conn` has to be in no transaction. With Ok the database holds this campaign, and
-/// no other row is touched. Memory: the database says that it has none. Store: it gives another
-/// error. After a fault the database holds the campaign before while the connection is open, and a
-/// crash leaves the one before or the one after. All of this is promised on a clean disk
-/// (docs/PROVED.md, "Premises"). See docs/FORMATS.md, "Tables".
+/// `IsJoining`); `conn` has to be in no transaction, and is in none afterwards. With Ok the
+/// database holds this campaign, and no other row is touched. Memory: the database says that it has
+/// none. Store: it gives another error. After a fault the database holds the campaign before while
+/// the connection is open, and a crash leaves the one before or the one after. All of this is
+/// promised on a clean disk (docs/PROVED.md, "Premises"). See docs/FORMATS.md, "Tables".
 pub fn write_join<S: Alter>(
     conn: &mut Connection<S>,
     campaign: &Campaign,

@@ -14,12 +14,12 @@ use crate::fault::WriteFault;
 use atl_writing::write_mailing;
 use sqlite::{Alter, Connection};
 
-/// Writes the mail of a faction into a database that holds a campaign, replacing an older one, in
-/// one transaction; `conn` has to be in none before. With Ok the database holds the campaign with
-/// this mail, and no other row is touched. Memory: the database says that it has none. Store: it
-/// gives another error. After a fault the database holds the campaign before while the connection
-/// is open, and a crash leaves the one before or the one after. All of this is promised on a clean
-/// disk (docs/PROVED.md, "Premises"). See docs/FORMATS.md, "Tables".
+/// Writes a faction's mail, in place of an older one, into a database that holds a campaign, in one
+/// transaction; `conn` has to be in none before, and is in none after. With Ok the database holds
+/// the campaign with this mail, and no other row is touched. Memory: the database says that it has
+/// none. Store: it gives another error. After a fault the database holds the campaign before while
+/// the connection is open, and a crash leaves the one before or the one after. All of this is
+/// promised on a clean disk (docs/PROVED.md, "Premises"). See docs/FORMATS.md, "Tables".
 pub fn write_mail<S: Alter>(
     conn: &mut Connection<S>,
     faction: u32,

@@ -102,7 +102,7 @@ fn read_kind(world: &World, cursor: Cursor) -> Result<Operands, LineFault>
     Ok(Operands::Kind(Some(kind)))
 }
 
-/// Only a list of units takes memory.
+/// The operands of a verb that has this shape. Only a list of units takes memory.
 fn read_operands(
     alloc: Global,
     world: &World,

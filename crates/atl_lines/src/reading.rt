@@ -77,7 +77,7 @@ fn keyword_of(word: Word) -> Option<Keyword>
     }
 }
 
-/// `line` is what follows the keyword.
+/// What UNIT does, with any aliases given and any text; `line` is what follows the keyword.
 fn unit_line(line: &[u8]) -> (LineResult, ReaderState)
     ensures { (given : _) (text : List ℕ)
         → unit_step given (number_at (words line.now)) ≡ step_of text result given }
@@ -88,6 +88,7 @@ fn unit_line(line: &[u8]) -> (LineResult, ReaderState)
     }
 }
 
+/// What END does, with any aliases given and any text.
 fn end_line(state: ReaderState) -> (LineResult, ReaderState)
     ensures { (given : _) (text : List ℕ) → end_step state given ≡ step_of text result given }
 {
@@ -98,7 +99,7 @@ fn end_line(state: ReaderState) -> (LineResult, ReaderState)
     }
 }
 
-/// `line` is what follows the keyword.
+/// What FORM does, with any text; without fault its alias is added. `line` follows the keyword.
 fn form_line(state: ReaderState, aliases: &mut Aliases, line: &[u8]) -> (LineResult, ReaderState)
     ensures { (text : List ℕ) → form_step state (alias_set aliases.old) (words line.now)
         ≡ step_of text result (alias_set aliases.new) }

@@ -158,8 +158,6 @@ module _ (w : WorldValue) (c : CampaignValue) (n item amount : ℕ) (u : Unit) (
       uses_bound = uses_bound;
     }
 
--- ---- what stays
-
 pub same_structures : (c : CampaignValue) (n item amount : ℕ) → (with_used c n item amount).structures ≡ c.structures
 same_structures c n item amount = by_unit c n (λ (d : CampaignValue). d.structures ≡ c.structures) _ refl (λ u is. refl)
 

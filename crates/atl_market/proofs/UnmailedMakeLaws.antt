@@ -2,7 +2,7 @@
 -- They suppose that the phase keeps what its specification says: a unit without an order of its own faction is there,
 -- with the same faction, region, structure, name and guard flag, and no less men, money, items or days. Then each unit
 -- of a faction without a mailing is there, with its faction and name, no less of any item, and its men less those whom
--- the phase's Starved events report. These phases report none. In any case they keep the mailings (`LeavesUnmailed`).
+-- the phase's Starved events report: here none. In any case it keeps the mailings and takes back no Starved event.
 use Rattle.std.proofs.Common.{◌+◌, ◌-◌, ◌*◌, ℕ, Option, Some, None, refl}
 use Rattle.std.specs.Prelude.{IfSome, neg_ℤ, option_and_then, option_map, pos}
 use Rattle.std.specs.List.{slice_get}
@@ -28,8 +28,6 @@ use Rattle.atl_market.specs.Goods.{with_made, with_used}
 use Rattle.atl_market.specs.Produce as produce
 use Rattle.atl_market.proofs.ThereLaws.{by_option, by_unit}
 use Rattle.atl_market.proofs.UnmailedPotLaws.{orders_with_verbs, others_items, paid_men, shared_leave}
-
--- ---- what a unit uses
 
 abbrev with_item_amount : (item amount : ℕ) → Unit → Unit
 with_item_amount i amount u =
@@ -85,7 +83,7 @@ built_men w c f n x other = tt
 build_leaves_men : LeavesOthersMen build_step
 build_leaves_men w a c t x own = built_men w c t.faction t.unit x t.order_value.operands
 
--- BUILD leaves units of factions without a mailing their items, and their men less the starved (`PhaseLeavesUnmailed`)
+-- BUILD leaves units of factions without a mailing their names and items, and their men less the starved
 pub build_leaves : PhaseLeavesUnmailed build_spec
 build_leaves =
     carried_leaves build_step is_building build_leaves_men
@@ -109,7 +107,7 @@ produced_men asked w c e =
     (by_option (HaveTheirMen c) (λ r. with_used c e.0 r (e.1 * x.raw_count)) x.raw c (men_stay c) (λ r raw. used_men c e.0 r (e.1 * x.raw_count)))
     (made_men used e.0 i e.1))
 
--- PRODUCE leaves units of factions without a mailing their items, and their men less the starved
+-- PRODUCE leaves units of factions without a mailing their names and items, and their men less the starved
 pub produce_leaves : PhaseLeavesUnmailed produce.produce_spec
 produce_leaves =
     shared_leave produce.produce_pots (orders_with_verbs produce.is_produce)

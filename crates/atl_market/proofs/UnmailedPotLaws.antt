@@ -3,8 +3,8 @@
 -- without an order of its own faction. A unit is no worse off with the same faction, region, structure, name and guard
 -- flag, and no less men, money, items or days. Then each unit of a faction without a mailing is there, with its faction
 -- and name, no less of any item, and its men less those whom the phase's Starved events report. These phases report
--- none. In any case they keep the mailings (`LeavesUnmailed`). `p` is the phase, `m` the month as it gets it, `c` and
--- `d` the campaigns around it.
+-- none. In any case they keep the mailings and take back no Starved event (`LeavesUnmailed`). `p` is the phase, `m` the
+-- month as it gets it, `c` and `d` the campaigns around it.
 use Rattle.std.proofs.Common.{◌≡◌, ◌≢◌, ◌==◌, ◌&&◌, ◌||◌, ◌+◌, ◌-◌, ℕ, Bool, true, false, List, [], ◌∷◌, ◌++◌, map, None, refl, ap, ◌∙◌}
 use Rattle.std.specs.Prelude.{if◌then◌else◌, pos}
 use Rattle.std.specs.List.{AllByRecursion, list_any}
@@ -73,8 +73,8 @@ module _ (p : PotMeaning) (orders : CampaignValue → MonthValue → List Task) 
   abbrev pub shared : Meaning
   shared = pots_meaning p orders
 
-  -- `LeavesUnmailed` holds of a phase with pots, if units of factions without a mailing are there after it with as many
-  -- men. Where it keeps what `keeps` says, they must also have their names, and no less of any item.
+  -- `LeavesUnmailed` holds of a phase with pots, if units of factions without a mailing are there after it, of the same
+  -- faction, with as many men. Where `keeps` holds of it, they must also have their names, and no less of any item.
   pub shared_leave : {keeps : Frame}
       → ((w : WorldValue) (c : CampaignValue) (m : MonthValue) → UnmailedAre HasItsMen m c (shared w c m).0)
       → ((w : WorldValue) (c d : CampaignValue) (m : MonthValue) → keeps w m c d → UnmailedAre HasItsItems m c d)
@@ -82,7 +82,7 @@ module _ (p : PotMeaning) (orders : CampaignValue → MonthValue → List Task) 
   shared_leave {keeps} men items =
       whole_leaves {meaning = shared} {keeps = keeps} (λ w c m. refl) (λ w c m n. pots_report_none_starved p w c m.events (orders c m) n) (λ w c m h. men w c m) (λ w c m h. items w c (shared w c m).0 m h)
 
-  -- a phase with pots leaves units of factions without a mailing their men, if each payment leaves all units their men
+  -- a phase with pots leaves units of factions without a mailing their faction and men, if each payment does so to all
   pub paid_men : ((w : WorldValue) (items : FinMap nat_cmp ℕ) (d : CampaignValue) (e : ℕ × ℕ) → HaveTheirMen d (p.paid items w d e))
       → (w : WorldValue) (c : CampaignValue) (m : MonthValue) → UnmailedAre HasItsMen m c (shared w c m).0
   unfolding after_sharing
@@ -103,7 +103,7 @@ tax_men w c e =
     men_changed (λ v. record v { holding = record v.holding { money = u.holding.money + e.1 } }) (λ v. record { faction = refl; men = refl })
     c (with_region_money (with_money c e.0 (u.holding.money + e.1)) u.region (q.money - e.1)) e.0 refl))
 
--- TAX leaves units of factions without a mailing their items, and their men less the starved (`PhaseLeavesUnmailed`)
+-- TAX leaves units of factions without a mailing their names and items, and their men less the starved
 pub tax_leaves : PhaseLeavesUnmailed tax_spec
 tax_leaves =
     shared_leave tax_pots (orders_with_verbs is_tax)
@@ -119,7 +119,7 @@ work_men w c e =
     men_changed (λ v. record v { holding = record v.holding { money = u.holding.money + wages } }) (λ v. record { faction = refl; men = refl })
     c (with_booking (with_money c e.0 (u.holding.money + wages)) Wages Money (pos wages)) e.0 refl)
 
--- WORK leaves units of factions without a mailing their items, and their men less the starved (`PhaseLeavesUnmailed`)
+-- WORK leaves units of factions without a mailing their names and items, and their men less the starved
 pub work_leaves : PhaseLeavesUnmailed work_spec
 work_leaves = shared_leave work_pots work_orders (paid_men work_pots work_orders (λ w items. work_men w)) none_worse
 
@@ -150,7 +150,7 @@ module _ (is_of : Verb → Bool) (m : MonthValue) where
       → UnmailedAre HasItsItems m c d
   others_items c d h n u there none = let (v, after, better) = h n u there (unordered n u none) in record { unit = v; there = after; is_unaffected = items_of_no_worse u v better }
 
--- RECRUIT leaves units of factions without a mailing their items, and their men less the starved
+-- RECRUIT leaves units of factions without a mailing their names and items, and their men less the starved
 pub recruit_leaves : PhaseLeavesUnmailed recruit_spec
 recruit_leaves =
     shared_leave recruit_pots (orders_with_verbs is_recruit)
@@ -176,10 +176,10 @@ module _ (trade : Trade) where
       })
       (λ w c d m. others_items (is_trade trade) m c d)
 
--- SELL leaves units of factions without a mailing their items, and their men less the starved (`PhaseLeavesUnmailed`)
+-- SELL leaves units of factions without a mailing their names and items, and their men less the starved
 pub sell_leaves : PhaseLeavesUnmailed sell_spec
 sell_leaves = trade_leaves Sell
 
--- BUY leaves units of factions without a mailing their items, and their men less the starved (`PhaseLeavesUnmailed`)
+-- BUY leaves units of factions without a mailing their names and items, and their men less the starved
 pub buy_leaves : PhaseLeavesUnmailed buy_spec
 buy_leaves = trade_leaves Buy

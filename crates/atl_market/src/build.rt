@@ -1,5 +1,6 @@
 //! BUILD: units begin structures, and continue those that they are inside. See docs/RULES.md,
-//! "Building". AllocError without memory; the campaign may then be changed in part.
+//! "Building". Orders need `CanBuild` and room in the books (`HaveRoom`). AllocError without
+//! memory; the campaign may then be changed in part.
 ghost use Rattle.std.specs.Prelude.{◌≡◌, ◌≤◌, ◌<◌, ◌++◌, IfOk, None, OnOk, Some, true};
 ghost use Rattle.std.specs.FinMap as map;
 ghost use Rattle.std.specs.Fmt.{decimal};
@@ -113,7 +114,8 @@ fn name_of(alloc: Global, kind: &Kind, number: u32) -> Result<Text, AllocError>
 }
 
 /// Unit `unit` uses `size` of the material of `kind`, which has the number `number`, begins a
-/// structure with it in `region`, and enters it.
+/// structure with it in `region`, and enters it. The unit can use so much (`uses`), the next number
+/// of structures is free (`fresh`), and it is at most 10,000 (`room`).
 fn start_structure(
     alloc: Global,
     world: &World,

@@ -1,5 +1,6 @@
-//! Takes used items from a unit and gives it made items; both are booked. `number` is the unit's.
-//! AllocError without memory; nothing is promised of the campaign then.
+//! Takes used items from a unit and gives it made items, which it can use and make (`can`); both
+//! are booked. `number` is the unit's. AllocError without memory; nothing is promised of the
+//! campaign then.
 ghost use Rattle.std.specs.Prelude.{◌≡◌, OnOk, Some};
 ghost use Rattle.std.specs.FinMap as map;
 ghost use Rattle.atl_campaign.specs.Covers.{MarksChanges};

@@ -78,7 +78,7 @@ fn most_makeable_of(holding: &Holding, number: u16, item: &Item) -> u32
     up_to_raw(holding, item.raw_count, item.raw, skilled.min(room))
 }
 
-/// The most that a unit can make of the item that its order names, which the world has.
+/// The most (up to 999,999,999) that a unit can make of its order's item, which the world has.
 pub(crate) fn most_makeable(world: &World, holding: &Holding, asked: Option<u16>) -> u32
     requires { is_some (item_of world.now asked) ≡ true }
     ensures value { result ≡ most_makeable world.now holding.now asked }
@@ -90,7 +90,8 @@ pub(crate) fn most_makeable(world: &World, holding: &Holding, asked: Option<u16>
     }
 }
 
-/// Unit `number` uses up the raw items (at most 999,999,999) for `made` pieces of `item`, if any.
+/// Unit `number` uses up the raw items for `made` pieces of `item`, if any. It can use them
+/// (`can`), and they are at most 999,999,999. AllocError may leave the campaign changed in part.
 fn use_raw(
     world: &World,
     campaign: &mut Campaign,
@@ -112,8 +113,8 @@ fn use_raw(
     }
 }
 
-/// Unit `number` makes `made` pieces of the item `found`, which has the number `item`, and uses up
-/// the raw items for them, if any. AllocError may leave the campaign changed in part.
+/// Unit `number` makes `made` pieces of the item `found`, of number `item`, and uses up the raw
+/// items for them, if any. It can (`CanMakeOf`). AllocError may leave the campaign changed in part.
 pub(crate) fn make(
     world: &World,
     campaign: &mut Campaign,

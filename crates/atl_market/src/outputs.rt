@@ -60,7 +60,8 @@ impl<'a> ItemPots for Outputs<'a> {
     }
 }
 
-/// `shares` has by unit its share of what its region's terrain gives of its item.
+/// How much a unit with this want makes: all of it where `takes_raw` holds for its item, else its
+/// share. `shares` has by unit its share of what its region's terrain gives of its item.
 #[tactic(auto, using(atl_pots::proofs::ItemPotLaws::shares_at))]
 fn amount_made(
     world: &World,

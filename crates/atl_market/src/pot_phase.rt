@@ -133,8 +133,8 @@ fn unit_for<'c, P: PotPhase>(
     }
 }
 
-/// Puts into the maps, under the order's unit, what it wants and the item that the order names. It
-/// puts in nothing where the order has a fault, and no item where it names none.
+/// Puts into the maps, under the order's unit, its want and the item that the order names, if any;
+/// nothing where the order has a fault. No want is above 999,999,999. Operands are as `asks` says.
 #[tactic(auto, using(crate::proofs::WantLaws::one_want))]
 fn note_order<P: PotPhase>(
     phase: &P,
@@ -165,6 +165,7 @@ fn note_order<P: PotPhase>(
 }
 
 /// The wants (at most 999,999,999) and the items that orders name, by unit, of faultless orders.
+/// The operands are as `asks` says.
 #[tactic(auto, using(crate::proofs::WantLaws::optional_entry_first))]
 fn wants_and_items<P: PotPhase>(
     alloc: Global,

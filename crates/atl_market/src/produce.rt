@@ -111,9 +111,9 @@ impl Phase for ProducePhase {
     }
 }
 
-/// The law that all units produce at once. What a unit made is added to what it had as the phase
-/// began, and the raw items that went into it are taken off. Nothing else of a unit changes, and no
-/// region. Does nothing. See docs/RULES.md, "Producing".
+/// The law that all units produce at once, in any campaign, by any orders. What a unit made is
+/// added to what it had as the phase began, and the raw items that went into it are taken off.
+/// Nothing else of a unit changes, and no region. Does nothing. See docs/RULES.md, "Producing".
 pub fn units_produce_all_at_once()
     ensures { ProducesAtOnce }
 {}

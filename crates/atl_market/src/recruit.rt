@@ -141,10 +141,10 @@ impl Phase for RecruitPhase {
     }
 }
 
-/// The law that all recruits join at once. They are added to the men that their unit had as the
-/// phase began, and their price is taken off its money. They are taken off the peasants of its
-/// region. Nothing else of units and regions changes. Does nothing. See docs/RULES.md,
-/// "Recruiting".
+/// The law that all recruits join at once, in any campaign, by any orders. They are added to the
+/// men that their unit had as the phase began, and their price is taken off its money. They are
+/// taken off the peasants of its region. Nothing else of units and regions changes. Does nothing.
+/// See docs/RULES.md, "Recruiting".
 pub fn recruits_join_all_at_once()
     ensures { RecruitsAtOnce }
 {}

@@ -129,9 +129,9 @@ impl Phase for TaxPhase {
     }
 }
 
-/// The law that all units take their tax at once. Each has its share added to the money that it had
-/// as the phase began, and what its units took is taken off each region's money. Nothing else of
-/// units and regions changes. Does nothing. See docs/RULES.md, "Tax".
+/// The law that all units take their tax at once, in any campaign, by any orders. Each has its
+/// share added to the money that it had as the phase began, and each region loses what its units
+/// took. Nothing else of units and regions changes. Does nothing. See docs/RULES.md, "Tax".
 pub fn tax_pays_all_at_once()
     ensures { TaxesAtOnce }
 {}

@@ -85,7 +85,7 @@ fn trade_fault(trade: Trade, holding: &Holding, market: Option<&Market>) -> Opti
     has_too_little(trade, holding, market).then_some(EventFault::NotEnough)
 }
 
-/// At most 999,999,999; the market's prices are at least 1.
+/// At most 999,999,999. The numbers of the market are within their bounds (`IsPriced`).
 fn most_tradable(trade: Trade, holding: &Holding, market: &Market) -> u32
     requires { IsPriced market.now }
     ensures value { result ≡ most_tradable trade holding.now market.now }
@@ -99,7 +99,8 @@ fn most_tradable(trade: Trade, holding: &Holding, market: &Market) -> u32
     }
 }
 
-/// The unit can afford the share, and the market has room for it (SELL) or has it in stock (BUY).
+/// What unit and market have after trading a share. The unit can afford it (`holder`), the market
+/// has room for it (SELL) or has it in stock (BUY), and its prices are at least 1 (`priced`).
 fn trade_result_of(
     trade: Trade,
     holding: &Holding,
@@ -136,8 +137,9 @@ fn trade_result_of(
     }
 }
 
-/// Sets what unit `number` and the stock of its region have after a trade (`deal`), and books the
-/// money. Where `region` isn't the unit's, nothing is promised of the campaign.
+/// Sets the money of unit `number`, its amount of `item` and its region's stock of it as a trade
+/// (`deal`) leaves them, and books the money under `entry`. The deal can be booked
+/// (`CanBookTrade`). Where `region` isn't the unit's, nothing is promised of the campaign.
 fn book_trade(
     campaign: &mut Campaign,
     number: u32,
@@ -321,11 +323,11 @@ impl<const SELLS: bool> Phase for TradePhase<SELLS> {
     }
 }
 
-/// The law that in a world (`IsWorld`) all units sell at once, and all buy at once. By SELL a unit
-/// gives its share of the item that it had as the phase began and gets the money for it. A region's
-/// stock of an item grows by all that its units sold of it. By BUY units get the item for money,
-/// and the stock falls. Nothing else changes of units and regions. Does nothing. See docs/RULES.md,
-/// "Selling" and "Buying".
+/// The law that in a world (`IsWorld`) all units sell at once, and all buy at once, in any
+/// campaign, by any orders. By SELL a unit gives its share of the item that it had as the phase
+/// began and gets the money for it. A region's stock of an item grows by all that its units sold of
+/// it. By BUY units get the item for money, and the stock falls. Nothing else changes of units and
+/// regions. Does nothing. See docs/RULES.md, "Selling" and "Buying".
 pub fn units_trade_all_at_once()
     ensures { TradesAtOnce }
 {}

@@ -125,7 +125,7 @@ fn sort_by_unit(list: &mut Vec<PhaseOrder<'_>>)
     );
 }
 
-/// All orders of the phase, sorted; those that no mailing has refer to `mailing` and `work`.
+/// All orders, by unit, line and faction; those that no mailing has refer to `mailing` and `work`.
 fn work_orders<'m>(
     alloc: Global,
     campaign: &Campaign,
@@ -269,9 +269,9 @@ impl Phase for WorkPhase {
     }
 }
 
-/// The law that all units are paid their wages at once, each by what it held and where it was as
-/// the phase began. Nothing else of a unit changes, nor of a region. Does nothing. See
-/// docs/RULES.md, "Work".
+/// The law that all units are paid their wages at once, in any campaign, by any orders, each by
+/// what it held and where it was as the phase began. Nothing else of a unit changes, nor of a
+/// region. Does nothing. See docs/RULES.md, "Work".
 pub fn work_pays_all_at_once()
     ensures { WorksAtOnce }
 {}

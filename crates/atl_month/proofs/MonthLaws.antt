@@ -97,7 +97,6 @@ module _ (w : WorldValue) (c d : CampaignValue) (book_bound : BookBound) (little
 -- else holds of `d`
 module _ {leaves : Condition} (w : WorldValue) (c d : CampaignValue) (well : LeavesWell leaves phases_bound w c d) where
   -- the phases of a month move each amount of the books by at most 10^14 - 1 for each phase that may move it
-  -- (`month_moves`)
   pub books_near : BooksAreNear month_moves c d
   books_near e t =
       near_more (phases_bound e t) (month_moves e t) (amount_in c.books e t) (amount_in d.books e t) (month_within e t)

@@ -118,7 +118,8 @@ infixr 5 ◌▹◌
 ◌▹◌ : {A B : Type 0} → A → B → A × B
 one ▹ others = (one, others)
 
--- each phase from FORM to RECRUIT moves only its own entries, and leaves such units items and men (`KeepsPhaseLaws`)
+-- each phase from FORM to RECRUIT moves only its own entries, each amount by less than 10^14, and leaves units of
+-- factions without a mailing their items, and their men less the starved (`KeepsPhaseLaws`)
 pub early_are : EachPhase KeepsPhaseLaws early_phases
 early_are =
     keeps_phase_laws form_spec (moves_nothing_alone no_moved_entries) form_leaves
@@ -132,7 +133,8 @@ early_are =
     ▹ keeps_phase_laws recruit_spec (money_alone entries.Recruiting) recruit_leaves
     ▹ tt
 
--- each phase from GUARD 1 to PRODUCE moves only its own entries, and leaves such units items and men (`KeepsPhaseLaws`)
+-- each phase from GUARD 1 to PRODUCE moves only its own entries, each amount by less than 10^14, and leaves units of
+-- factions without a mailing their items, and their men less the starved (`KeepsPhaseLaws`)
 pub later_are : EachPhase KeepsPhaseLaws later_phases
 later_are =
     keeps_phase_laws guard_spec (moves_nothing_alone no_moved_entries) guard_leaves

@@ -113,7 +113,7 @@ BooksAreNear book_bound before after =
 -- ---- the mailings
 
 -- the law that the mailings of a month, at most one of each faction, make the same campaign and the same events if they
--- are given in another order
+-- are given in another order, for the same campaign and the same words of the dice
 abbrev pub MailOrderDoesNotCount : Type 0
 MailOrderDoesNotCount =
     (w : WorldValue) (c : CampaignValue) (words : List ℕ) (mailings others : List Mailing) →

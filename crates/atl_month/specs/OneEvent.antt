@@ -19,8 +19,8 @@ abbrev pub aliases_for : Verb → Aliases → Aliases
 aliases_for verbs.Form made = empty
 aliases_for verb made = made
 
--- A law: each order that counts (`Counts`), with its unit by the aliases for its verb (`aliases_for`), has exactly one
--- event in the month. This supposes that the mailings can be read with the world (`AreFit`).
+-- A law: each order that counts (`Counts`), with its unit by the aliases for its verb (`aliases_for`) of those that
+-- FORM made, has exactly one event in the month. This supposes that the mailings can be read with the world (`AreFit`).
 abbrev pub EachOrderHasOneEvent : Type 0
 EachOrderHasOneEvent =
     (w : WorldValue) (c : CampaignValue) (readings : FinMap nat_cmp Reading) (words : List ℕ) → AreFit w readings →

@@ -11,8 +11,9 @@ use Rattle.atl_phase.specs.Unmailed.{IsLeft, starved_in}
 abbrev pub SentNone : List Mailing → (faction : ℕ) → Type 0
 SentNone mailings faction = All (λ m. m.faction ≢ faction) mailings
 
--- Each unit of `before` whose faction sent none of `mailings` is there in `after`, with faction and name. It has no
--- less of any item, and exactly its men less those who starved, as `events` report. If all starved it is removed.
+-- Of each unit of `before` whose faction sent none of `mailings`, no more men starved, as `events` report, than it had.
+-- If fewer did, it is there in `after` with its faction and name, no less of any item, and exactly those men less. If
+-- all did, it is removed (`IsLeft`).
 abbrev pub UnmailedAreLeft : List Mailing → List Event → (before after : CampaignValue) → Type 0
 UnmailedAreLeft mailings events before after =
     Every (λ n u. SentNone mailings u.faction → IsLeft (starved_in events n) after n u) before.units

@@ -68,7 +68,7 @@ pub fn close_month(
 }
 
 /// The law that the mailings of a month, at most one of each faction, make the same campaign and
-/// the same events if they are given in another order. Does nothing.
+/// events of the same campaign and words if they come in another order. Does nothing.
 pub fn months_have_no_order()
     ensures { MailOrderDoesNotCount }
 {}
@@ -81,7 +81,7 @@ pub fn each_order_has_one_event()
 {}
 
 /// The laws of what a month books: each phase moves only amounts that its specification lists, each
-/// by less than 10^14; and at most two phases move an amount. Does nothing.
+/// by less than 10^14; and at most two phases may move an amount. Does nothing.
 pub fn phases_move_little()
     ensures little { PhasesMoveLittle }
     ensures two { TwoMoveAtMost }

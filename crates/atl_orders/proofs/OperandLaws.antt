@@ -67,6 +67,7 @@ word_number most fault w =
 abbrev pub NumberRead : Type 0
 NumberRead = ℕ × List WordText
 
+-- the number that is read at the front of ws (`count_at`), if the result is no fault, is from 1 to `most`
 pub count_holds : (most : ℕ) (fault : LineFault) (ws : List WordText)
     → Holds (λ (x : NumberRead). IsWithin most x.0) (count_at most fault ws)
 unfolding count_at

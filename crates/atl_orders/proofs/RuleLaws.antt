@@ -86,7 +86,6 @@ line_fits world state given line =
 
 -- ---- the rules allow nothing else
 
--- `given` says which aliases earlier FORM lines gave
 module _ (given : ℕ → Bool) where
   closed : (state out : ReaderState) → state_after_block state ≡ Some out
       → step nothing out given ≡ end_step state given

@@ -90,7 +90,7 @@ pub record IsReading (world : WorldValue) (r : Reading) : Type 0 where
   pub entries : All (IsEntry world) r.entries
   pub lines : LinesRise 0 r.entries
 
--- Every text that is read as a mailing gives a faction, orders and line numbers that are in bounds, and orders whose
--- operands have the shape of their verbs (`IsReading`).
+-- Every text that is read as a mailing, with any world, gives a faction, orders and line numbers that are in bounds for
+-- this world, and orders whose operands have the shape of their verbs (`IsReading`).
 abbrev pub ReadingsKeepBounds : Type 0
 ReadingsKeepBounds = (world : WorldValue) (text : List ℕ) (r : Reading) → reading world text ≡ Ok r → IsReading world r

@@ -152,7 +152,8 @@ pub data TextSays (world : WorldValue) (text : List ℕ) (read : Result Reading 
       → BodySays world (length above + 2) Nowhere no_alias below entries faults
       → read ≡ Ok (record { faction = faction; entries = entries; faults = faults }) → TextSays world text read
 
--- The step that the function `line_step` gives a line is the one that the rules `LineSays` allow, and no other.
+-- In any world and state, and with any aliases given before, the step that the function `line_step` gives a line is the
+-- one that the rules `LineSays` allow, and no other.
 abbrev pub LineRules : Type 0
 LineRules =
     ((world : WorldValue) (state : ReaderState) (given : ℕ → Bool) (line : List ℕ)
@@ -180,7 +181,7 @@ BodyRules =
     → BodySays world n state given lines entries faults
     → (entries ≡ entries_from world n state given lines) × (faults ≡ faults_from world n state given lines))
 
--- The result that the function `reading` gives a text is the one that the rules `TextSays` allow, and no other.
+-- The result that `reading` gives a text with a world is the one that the rules `TextSays` allow, and no other.
 abbrev pub TextRules : Type 0
 TextRules =
     ((world : WorldValue) (text : List ℕ) → TextSays world text (reading world text))

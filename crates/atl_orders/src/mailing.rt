@@ -131,8 +131,9 @@ struct Header<'a> {
     rest: Option<&'a [u8]>,
 }
 
-/// The first header of a text, else NoHeader or BadHeader. It takes no memory (`sure`). Each line
-/// after the header has a number below `MOST_BYTES` + 2 (`small`).
+/// The first header of a text of at most `MOST_BYTES` bytes; NoHeader if there is none, BadHeader
+/// if it names no faction. It takes no memory (`sure`). The lines after the header are the end of
+/// the text (`rest`); each has a number below `MOST_BYTES` + 2 (`small`).
 #[tactic(auto, using(atl_words::proofs::WordLaws::ends_further, atl_words::proofs::WordLaws::ends_with_all), unfolding(atl_words::specs::Header::header_from))]
 fn find_header(text: &[u8]) -> Result<Header<'_>, MailFault>
     requires { length text.now ≤ most_bytes }
@@ -168,7 +169,8 @@ pub fn is_mailing_of(faction: u32, text: &[u8]) -> bool
     text.len() <= MOST_BYTES && find_header(text).is_ok_and(|header| header.faction == faction)
 }
 
-/// The mailing of a text with this header, by the lines after it. AllocError comes without memory.
+/// The mailing of a text with this header, by the lines after it. They are the end of the text
+/// (`rest`), with numbers below 2^32 (`small`). AllocError comes without memory.
 #[tactic(auto, using(atl_words::proofs::LineLaws::line_ends_at, atl_words::proofs::WordLaws::ends_further, atl_words::proofs::LineLaws::starts_shorter, atl_words::proofs::WordLaws::ends_shorter), unfolding(crate::specs::Mailing::effects))]
 fn read_body(
     alloc: Global,

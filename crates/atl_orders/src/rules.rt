@@ -12,9 +12,9 @@ pub fn rules_are_the_reading()
 {}
 
 /// A law: every mailing that is read has a faction in range, and its orders have strictly ascending
-/// line numbers. Each order has operands of the shape that the order table gives its verb, with
-/// numbers in their ranges, names by the rule of names, and items, skills and kinds of the world.
-/// The unit that it is for is in range, too. The call does nothing. See docs/RULES.md, "Orders".
+/// line numbers above 0. Each order has operands of the shape that the order table gives its verb,
+/// with numbers in their ranges, names by the rule of names, and items, skills and kinds of the
+/// world. The unit that it is for is in range, too. Does nothing. See docs/RULES.md, "Orders".
 pub fn readings_keep_bounds()
     ensures { ReadingsKeepBounds }
 {}

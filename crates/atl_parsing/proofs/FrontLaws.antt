@@ -185,8 +185,8 @@ number_by key b p false e =
     let none : number_of (b ∷ p) ≡ None = rw e (none_if_not_digits (nat_lt 0 (length (b ∷ p))) (nat_le (length (b ∷ p)) 9) (Some (digits_value 10 (b ∷ p)))) in
     found_or_none key (b ∷ p) none (one_or_none key b p)
 
--- `IsNumberLookup` holds of each text: looking it up finds the key, and the text is UTF-8 or no number; or it finds
--- nothing, and the text is no number
+-- `IsNumberLookup` holds of each text: looking it up in the row of a parameter finds the key, and the text is UTF-8 or
+-- no number; or it finds nothing, and the text is no number
 pub number_says : (key : ℕ) (rest : List ℕ) → IsNumberLookup key rest
 unfolding seek number_of
 number_says key [] = inr (refl, refl)

@@ -98,8 +98,6 @@ pub front_refused : (input : List ℕ) → IsRefused (take most_head input) → 
 front_refused input h =
     subst IsRefused (front_and_rest input) (refused_stays (take most_head input) (drop most_head input) h)
 
--- ---- a head that isn't whole
-
 -- an input below 8,192 bytes is unfinished (`IsUnfinished`), if its front, which then is all of it, has no whole head,
 -- and may become one or ends inside the target
 pub short_front : (input : List ℕ) → length input < most_head → HasNoRequest (take most_head input)

@@ -1,7 +1,7 @@
 -- `verdict_of`: the checks of a whole head and its body, in their order. See docs/FORMATS.md, "HTTP". The verdict is
 -- Refused with a problem, More while bytes of the body are missing, or Asks with the request. Of the head `minor` is
 -- the digit after `HTTP/1.`, and `method` and `target` are the first two words, as `GET` and `/report/3`. `rest` has
--- the bytes after the head.
+-- the bytes after the head. The ASCII case of the names of fields is ignored.
 use Rattle.std.specs.Prelude.{ℕ, Bool, true, false, ◌||◌, ◌==◌, nat_lt, bytes_eq, codes, if◌then◌else◌, List, [], ◌∷◌, length, take, Option, Some, None, is_some, Result, Ok, Err, option_and_then}
 use Rattle.std.specs.Str.{is_utf8}
 use Rattle.httparse.specs.Grammar.{RequestHead}

@@ -1,7 +1,7 @@
 //! Checks the head and the body of a request, in the order of docs/FORMATS.md, "HTTP". `minor` is
 //! the digit after `HTTP/1.`, and `method` and `target` are the first two words, as `GET` and
-//! `/report/3`. `fields` says where in `bytes` name and value of each field are. Each check gives
-//! what its definition of the same name says, or Memory.
+//! `/report/3`. `fields` says where name and value of each field are, all within `bytes`; the ASCII
+//! case of names is ignored. Each check gives what its definition of the same name says, or Memory.
 ghost use Rattle.std.specs.Prelude.{◌≡◌, All, length, bytes_eq};
 ghost use Rattle.httparse.specs.Spans.{IsHeaderWithin};
 ghost use Rattle.serde_json.specs.View.{view};

@@ -1,5 +1,5 @@
 //! Looks up the header fields of a request by name. `fields` says where in `bytes` the name and the
-//! value of each begin and end.
+//! value of each begin and end; all are within `bytes`.
 ghost use Rattle.std.specs.Prelude.{◌≡◌, All, length, option_map};
 ghost use Rattle.std.specs.Str.{str_eq_ignore_ascii_case};
 ghost use Rattle.httparse.specs.Spans.{IsHeaderWithin};

@@ -1,7 +1,7 @@
 //! Gives the verdict on the bytes received so far (`seen`): a request, a problem, or more to read.
 //! `front` are the first 8,192 of them, or all if fewer; `rest` are all after the head. `fields`
 //! says where in `front` or `bytes` fields are, with room for 32, and `minor` is the digit after
-//! `HTTP/1.`. See docs/FORMATS.md, "HTTP".
+//! `HTTP/1.`. AllocError without memory. See docs/FORMATS.md, "HTTP".
 ghost use Rattle.std.specs.Prelude.{◌≡◌, ◌≤◌, All, IfOk, length, take, drop};
 ghost use Rattle.httparse.specs.Spans.{IsHeaderWithin, IsRequestWithin, IsRequestOf};
 ghost use Rattle.atl_parsing.specs.Checks.{head_checks};
@@ -18,11 +18,10 @@ use std::alloc::{AllocError, Global};
 /// The most bytes of a head, its empty line among them.
 const MOST_HEAD: usize = 8_192;
 
-/// The most fields of a head.
 const MOST_FIELDS: usize = 32;
 
 /// The progress of a whole head and the bytes `rest` after it: by the first four checks of the
-/// head, and then by the body. AllocError without memory.
+/// head, and then by the body. All `fields` are within `bytes`. AllocError without memory.
 fn progress_with_body(
     alloc: Global,
     minor: u8,
@@ -123,6 +122,7 @@ fn progress_past_head(
     progress_with_body(alloc, head.version, method, target, front, fields, rest)
 }
 
+/// The progress on the bytes `seen`; `fields` is room for where the fields of their head are.
 fn progress_in(
     alloc: Global,
     seen: &[u8],

@@ -60,7 +60,6 @@ impl Problem {
     }
 }
 
-/// Prints a problem's name, as `NoRoute`.
 impl fmt::Display for Problem {
     fn fmt<W: fmt::Write>(&self, f: &mut fmt::Formatter<W>) -> fmt::Result {
         write!(f, "{}", self.name())
@@ -73,7 +72,6 @@ impl Error for Problem {}
 #[derive(Drop, Clone, Copy)]
 pub(crate) enum CheckError {
     Memory,
-    /// The request fails a check, with this problem.
     Failed(Problem),
 }
 

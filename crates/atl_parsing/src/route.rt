@@ -87,7 +87,7 @@ pub fn path_of(target: &[u8]) -> &[u8]
     &target[..end]
 }
 
-/// Any error means that memory ran out: the four routes don't conflict.
+/// Adds a route with its key. An error means that memory ran out: the four routes don't conflict.
 fn add(router: &mut Router<RouteKey>, route: &str, key: RouteKey) -> Result<(), AllocError>
     ensures { OnOk result (InsertsRead (parse_route route.now) key router.old router.new
         (Ok tt)) }

@@ -104,17 +104,17 @@ row_changes f same c d n what marks =
       goods = ap (λ (m : Marks). m.goods) marks;
     }
 
--- setting the men of unit n, with its row marked, changes the men that it holds and nothing else (`ChangesHolding`)
+-- setting unit n's men to `men`, with its row marked, changes its men and nothing else (`ChangesHolding`)
 pub men_changes : (c d : MarkedCampaign) (n men : ℕ) → d.value ≡ with_men c.value n men → d.marks ≡ mark_unit_row c n
     → ChangesHolding c d n (λ h. record h { men = men })
 men_changes c d n men = row_changes (λ h. record h { men = men }) (λ h. refl) c d n
 
--- setting the money of unit n, with its row marked, changes the money that it holds and nothing else (`ChangesHolding`)
+-- setting unit n's money to `money`, with its row marked, changes its money and nothing else (`ChangesHolding`)
 pub money_changes : (c d : MarkedCampaign) (n money : ℕ) → d.value ≡ with_money c.value n money
     → d.marks ≡ mark_unit_row c n → ChangesHolding c d n (λ h. record h { money = money })
 money_changes c d n money = row_changes (λ h. record h { money = money }) (λ h. refl) c d n
 
--- setting unit n's amount of one item, with this item marked, changes that amount and nothing else (`ChangesHolding`)
+-- setting unit n's amount of one item to `amount`, with this item marked, changes that amount alone (`ChangesHolding`)
 pub item_changes : (c d : MarkedCampaign) (n item amount : ℕ) → d.value ≡ with_item c.value n item amount
     → d.marks ≡ mark_item c n item amount
     → ChangesHolding c d n (λ h. record h { items = with_amount_of h.items item amount })
@@ -124,7 +124,7 @@ item_changes c d n item amount what marks = record {
   goods = ap (λ (m : Marks). m.goods) marks;
 }
 
--- setting unit n's days of one skill, with this skill marked, changes these days and nothing else (`ChangesHolding`)
+-- setting unit n's days of one skill to `days`, with this skill marked, changes these days alone (`ChangesHolding`)
 pub skill_changes : (c d : MarkedCampaign) (n skill days : ℕ) → d.value ≡ with_skill c.value n skill days
     → d.marks ≡ mark_skill c n skill → ChangesHolding c d n (λ h. record h { days = with_amount_of h.days skill days })
 skill_changes c d n skill days what marks = record {

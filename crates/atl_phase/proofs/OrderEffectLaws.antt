@@ -104,8 +104,6 @@ leaves_well {holds} {remaining} {book_bound} w a b l h = record {
   near = λ e t. near_by_bound (remaining a e t) (remaining b e t) (book_bound e t) (amount_in a.books e t) (amount_in b.books e t) (l e t) (h.uses_bound e t);
 }
 
--- ---- what stays
-
 -- to be no worse off is reflexive and transitive, and keeps the faction (`IsUnaffectedRelation`)
 pub no_worse_is_relation : IsUnaffectedRelation IsNoWorse
 no_worse_is_relation = record { same = no_worse; transitive = no_worse_twice; faction = λ u v h. h.faction }
@@ -231,8 +229,6 @@ module _ (w : WorldValue) where
       listed_order os are i o is inside =
           subst (λ x. P (task_of x)) (sym is)
           (each_mapped P task_of os (orders_of is_of a aliases readings) are each_order i o inside)
-
--- ---- the mailings stay
 
 event_keeps_readings : (m : MonthValue) (t : Task) (o : Option Outcome) → (with_event_of m t o).readings ≡ m.readings
 event_keeps_readings m t None = refl

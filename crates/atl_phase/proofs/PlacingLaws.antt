@@ -201,8 +201,6 @@ module _ (w : WorldValue) (c : CampaignValue) (n : ℕ) (u : Unit) (s : ℕ) (is
       (unbooked_well w c (placed_campaign w c n u s is steady apart) (placed_early w c n u s is steady apart inside afloat early)
       (same_month_by refl) refl (placed_total w c n u s is steady apart inside afloat))
 
--- ---- other units stay
-
 -- putting unit n in region r and structure s leaves each other unit k as it is
 pub place_stays : (c : CampaignValue) (n r s k : ℕ) → k ≢ n → get (with_place c n r s).units k ≡ get c.units k
 place_stays c n r s k apart =

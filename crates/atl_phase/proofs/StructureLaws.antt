@@ -92,8 +92,8 @@ module _ (c : CampaignValue) (k from to : ℕ) where
   unmoved q apart (Some y) =
       ap (λ b. Some (if b && y.owner == from then owned_by to y else y)) (sym (other_number q k apart))
 
-  -- a look-up after a handover of structure k finds it with the owner `to` if `from` owned it, and each other structure
-  -- as it was (`handed_on`)
+  -- a look-up after a handover finds structure k with the owner `to`, if `from` owned it, and each structure as it was
+  -- otherwise (`handed_on`)
   pub get-after_handover : (q : ℕ)
       → get (after_handover c k from to).structures q ≡ option_map (handed_on k from to q) (get c.structures q)
   get-after_handover q = elim (cases_eq q k) [

@@ -110,8 +110,8 @@ module _ {first second : Meaning} {early late : Frame} where
         record { unit = b.unit; there = b.there; is_unaffected = less_twice _ _ _ u a.unit b.unit (one.starved_reported w c m n) (two.starved_reported w between.0 between.1 n) a.is_unaffected b.is_unaffected };
   }
 
-  -- The first phase leaves such units their names, items and men less the starved (`LeavesUnmailed`). The second one
-  -- also removes those all of whose men starve (`ClosesUnmailed`). Then both in turn do as the second one.
+  -- The first phase leaves units of factions without a mailing their names, items and men less the starved
+  -- (`LeavesUnmailed`). The second also removes those whose men all starve (`ClosesUnmailed`). Then so do both in turn.
   pub then_closes : LeavesUnmailed first early → ClosesUnmailed second late
       → ClosesUnmailed (then_also first second) (both_keep first early late)
   then_closes one two = record {

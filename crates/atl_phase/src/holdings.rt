@@ -6,10 +6,10 @@ ghost use Rattle.atl_phase.specs.Holdings.{ChangesHolding, with_days};
 use atl_campaign::Campaign;
 use std::alloc::AllocError;
 
-/// Sets the number of men of a unit, at most MEN_LIMIT, and its days of the listed skills. The days
-/// are over all men, each skill by its number. It marks all that it changes, and no items. Where
-/// the unit isn't there nothing changes. AllocError without memory; the campaign may then be
-/// changed in part.
+/// Sets the men of a unit to `men`, at most MEN_LIMIT, and its days of each skill in `days` to the
+/// number beside the skill's; of two pairs of one skill the later counts. The days are over all
+/// men. It marks all that it changes, and no items. Where the unit isn't there nothing changes.
+/// AllocError without memory; the campaign may then be changed in part.
 pub fn set_people(
     campaign: &mut Campaign,
     unit: u32,

@@ -84,8 +84,8 @@ pub(crate) fn phase_orders_at<'m, P: PhaseVerbs>(
     Ok(list)
 }
 
-/// The law that each order of a phase is in the mailing of its faction, at its index there. Does
-/// nothing.
+/// The law that each order of a phase is in the mailing of its faction, at its index there, for its
+/// unit, on its line, and says the same there. Does nothing.
 pub fn orders_are_in_mailings()
     ensures { OrdersAreInMailings }
 {}

@@ -33,10 +33,12 @@ pub trait Phase {
     // What the phase keeps, mostly of units for which their own faction wrote no order of it.
     ghost keeps: { Frame };
 
-    /// Runs the phase, and returns the campaign and the month as it leaves them. The campaign is as
+    /// Runs the phase, and returns the campaign and the month as `meaning` says. The campaign is as
     /// `needs` says, the books have room for the phase, and the orders are such as can be read with
-    /// the world. What was read of the mailings stays, what changes is marked, and no mark is lost.
-    /// AllocError without memory; campaign and month are then given up.
+    /// the world. Afterwards `leaves` and `keeps` hold. The month's number, the reports, the set of
+    /// factions and what was read of the mailings stay. Books that balance still do, and no amount
+    /// moves further than `book_bound`. What changes is marked, and no mark is lost. AllocError
+    /// without memory; campaign and month are then given up.
     fn run(&self, alloc: Global, world: &World, campaign: Campaign, month: Month) -> PhaseResult
         requires needs { needs world.now campaign.value }
         requires room { HaveRoom book_bound campaign.value }

@@ -60,11 +60,11 @@ pot_shares pot_of wants c = from_entries (flat_map (shares_in pot_of wants c.uni
 
 -- `pot_of` gives the pot of a region by its number; `wants` has how much each unit wants of it, by unit
 module _ (pot_of : ℕ → ℕ) (wants : FinMap nat_cmp ℕ) (c : CampaignValue) where
-  -- what a unit gets of the pot of its region, if it has a share
+  -- what a unit, by its number, gets of the pot of its region, if it has a share
   abbrev pub share_of : ℕ → Option ℕ
   share_of number = get (pot_shares pot_of wants c) number
 
-  -- what a unit gets of the pot of its region; 0 where it has no share
+  -- what a unit, by its number, gets of the pot of its region; 0 where it has no share
   abbrev pub amount_given : ℕ → ℕ
   amount_given number = unwrap_or (share_of number) 0
 

@@ -21,7 +21,7 @@ pub trait ItemPots {
     // What must hold for `pot` to be called.
     ghost ready: { Self → Type 0 };
 
-    /// How much of an item there is to share in a region, its pot: at most 999,999,999.
+    /// The pot of an item in a region: at most 999,999,999 to share. `ready` must hold.
     fn pot(&self, item: u32, region: u32) -> u64
         requires { ready self.now }
         ensures value { result ≡ pot_of self.now item region }

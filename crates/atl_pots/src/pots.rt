@@ -24,7 +24,7 @@ pub trait Pots {
     // What must hold for `pot` to be called.
     ghost ready: { Self → Type 0 };
 
-    /// How much a region has to share, its pot: at most 999,999,999.
+    /// How much a region has to share, its pot: at most 999,999,999. `ready` must hold.
     fn pot(&self, region: u32) -> u64
         requires { ready self.now }
         ensures value { result ≡ pot_of self.now region }

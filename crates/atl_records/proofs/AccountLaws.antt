@@ -25,8 +25,6 @@ thing_at_index (Item i) = item_at (2 + i) i (omega arith)
     item_at : (n i : ℕ) → n ≡ suc (suc i) → thing_at n ≡ Item i
     item_at n i is = ap thing_at is
 
--- ---- things and entries with equal numbers
-
 pub same_thing : (t u : Thing) → thing_index t ≡ thing_index u → t ≡ u
 same_thing t u h = sym (thing_at_index t) ∙ ap thing_at h ∙ thing_at_index u
 

@@ -95,7 +95,7 @@ module _ (items : FinMap nat_cmp ℕ) (i amount : ℕ) where
 
 -- ---- a unit's amounts stay within limits, before a call (`old`) and after it (`new`), whether there was memory or not
 
--- Each amount stays from 1 to holding_limit: after one of at most holding_limit is set, and also where memory ran out
+-- Each amount stays from 1 to holding_limit: after one of at most holding_limit is set, and also where the call failed
 -- and nothing was set. r is the call's result.
 pub AreAmounts-set : {E : Type 0} (r : Result (Unit {0}) E) (old new : FinMap nat_cmp ℕ) (item amount : ℕ)
     → amount ≤ holding_limit → OnOk r (new ≡ with_amount_of old item amount) → OnErr r (new ≡ old) → AreAmounts old
@@ -105,7 +105,7 @@ AreAmounts-set (Ok u) old new item amount h put same is =
     (every_amount (λ i n. (1 ≤ n) × (n ≤ holding_limit)) old item amount (λ some. (some, h)) is)
 AreAmounts-set (Err e) old new item amount h put same is = subst AreAmounts (sym same) is
 
--- each amount stays from 1 to holding_limit if one in this range is inserted, and also if the call, of result r, fails
+-- each amount stays from 1 to holding_limit if one in this range is put in, or the call (r) fails and sets nothing
 pub AreAmounts-put : {E : Type 0} (r : Result (Unit {0}) E) (old new : FinMap nat_cmp ℕ) (item amount : ℕ)
     → (1 ≤ amount) × (amount ≤ holding_limit) → OnOk r (new ≡ insert old item amount) → OnErr r (new ≡ old)
     → AreAmounts old → AreAmounts new

@@ -1,6 +1,6 @@
 //! Levels of skills, and what units weigh and carry. A piece of an item weighs, and carries, up to
-//! `most_weight`, and a unit's goods at most `most_u32 * most_weight * most_items`. See
-//! docs/RULES.md, "Levels and loads".
+//! `most_weight`, and a unit's goods at most `most_u32 * most_weight * most_items`. Items have
+//! numbers below `most_items`. See docs/RULES.md, "Levels and loads".
 ghost use Rattle.std.specs.Prelude.{◌≡◌, ◌≤◌, ◌*◌, nat_le};
 ghost use Rattle.atl_world.specs.Limits.{last_level, most_items, most_weight};
 ghost use Rattle.atl_records.specs.Limits.{most_u32};

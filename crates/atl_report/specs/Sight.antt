@@ -64,8 +64,8 @@ structure_views w c watch =
 
 -- ---- markets
 
--- the view of a market, given with the index of its item in the world: its stock, and how many more pieces its limit
--- leaves room for
+-- the view of a market, given with the index of its item in the world: the item, its stock, and how many more pieces
+-- its limit leaves room for
 abbrev pub market_view : Region → ℕ × Market → MarketView
 market_view r (item, m) = record { item = m.item; stock = amount_of r.stocks item; wanted = m.limit - amount_of r.stocks item }
 
@@ -79,8 +79,8 @@ region_market_views r plan = option_map_or (market_views r) plan []
 
 -- ---- the whole
 
--- the view of the watched region, whose record is `r`: peasants, money, markets, all structures, and the units that are
--- seen
+-- the view of the watched region, whose record is `r`: number, peasants, money, markets, all structures, and the units
+-- that are seen
 abbrev pub region_view : WorldValue → CampaignValue → Watch → Region → RegionView
 region_view w c watch r = record {
   number = watch.region;

@@ -1,5 +1,6 @@
 //! Writes the text of the books, at the end of `out`; after an AllocError some of it may be there.
-//! See docs/FORMATS.md, "Books". The campaign has at most 1,000,000 units and regions together.
+//! See docs/FORMATS.md, "Books". The campaign has at most 1,000,000 units and regions together, and
+//! its books have each thing whose amounts are written.
 ghost use Rattle.std.specs.Prelude.{◌≡◌, ◌++◌, IfOk, OnOk, length, string_bytes};
 ghost use Rattle.std.specs.List.{slice_get};
 ghost use Rattle.atl_campaign.specs.Founding.{thing_count};
@@ -128,6 +129,7 @@ fn write_thing_part(
     Ok(())
 }
 
+/// The books must have as many things as the world.
 fn write_items(out: &mut String, world: &World, campaign: &Campaign) -> Result<(), AllocError>
     requires things { campaign.now.value.books.things ≡ thing_count world.now }
     requires countable { IsCountable campaign.now.value }

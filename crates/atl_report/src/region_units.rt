@@ -49,7 +49,7 @@ pub(crate) fn levels_of(
     Ok(levels)
 }
 
-/// The numbers of a faction's units, with men or not, by region.
+/// The numbers of a faction's units, with men or not, by region, in each region sorted.
 pub(crate) fn own_by_region(
     alloc: Global,
     campaign: &Campaign,

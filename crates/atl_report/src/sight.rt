@@ -257,13 +257,13 @@ pub fn view_over(
     })
 }
 
-/// What a faction sees: the regions where it has a unit with men, and what is seen there. Seen are
-/// all markets and structures, and the units that are the faction's own, guard, or have a stealth
-/// level at most the faction's best observation level there. Of its own units the faction sees the
-/// money, the items and the skills too. A structure's owner is 0 where there is none, or the owner
-/// isn't seen. For each region seen the call goes over all its units and over all structures of the
-/// campaign: for the views of many factions there is `view_over`. AllocError without memory. See
-/// docs/RULES.md, "Sight".
+/// What a faction sees: the month last closed, its own name (empty if it isn't there), the regions
+/// where it has a unit with men, and what is seen there. Seen are all markets and structures, and
+/// the units that are the faction's own, guard, or have a stealth level at most the faction's best
+/// observation level there. Of its own units it sees the money, the items and the skills too. A
+/// structure's owner is 0 where there is none, or it isn't seen. For each region seen the call goes
+/// over all its units and over all structures of the campaign: for the views of many factions there
+/// is `view_over`. AllocError without memory. See docs/RULES.md, "Sight".
 pub fn view(
     alloc: Global,
     world: &World,

@@ -32,6 +32,6 @@ mailed_body orders faults = codes "{\"faults\":[" ▸ pairs faults ▸ codes "],
 unfoldable pub month_body : (month : ℕ) → List ℕ
 month_body month = codes "{\"month\":" ▸ decimal month ▸ codes "}"
 
--- the reply of status 200 with this content type and this body
+-- the reply of status 200 with this content type and this body, without a line `Allow`
 abbrev pub success : (kind body : List ℕ) → Reply
 success kind body = record { status = 200; allow = None; kind = kind; body = body }

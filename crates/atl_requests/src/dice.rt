@@ -27,8 +27,8 @@ impl Dice {
         Lcg64Xsh32::new(self.seed, JOINING_STREAMS + u64::from(faction)).next_word()
     }
 
-    /// The first `count` words of the month of this number, one for each region. AllocError without
-    /// memory for them. See docs/FORMATS.md, "Dice".
+    /// The first `count` words of the month of this number; its closing takes one for each region.
+    /// AllocError without memory for them. See docs/FORMATS.md, "Dice".
     #[tactic(auto, unfolding(crate::specs::Dice::generator, crate::specs::Dice::first_words))]
     pub fn month_words(
         self,

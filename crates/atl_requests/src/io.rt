@@ -73,7 +73,8 @@ impl From<AllocError> for HttpFault {
 }
 
 /// Reads once, and adds what came to `seen`; returns how many bytes, 0 if the read was interrupted.
-/// Once `MOST_READS` reads are counted, none is done, and the fault is ReadFault.
+/// Once `MOST_READS` reads are counted, none is done, and the fault is ReadFault. If a read was
+/// done before, its outcome must have been a piece or an interruption.
 fn read_more<R: Read>(
     reader: &mut R,
     reads: &mut ReadCalls,

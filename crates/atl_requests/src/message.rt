@@ -107,8 +107,8 @@ fn error_body(alloc: Global, name: &str, number: u8) -> Result<String, AllocErro
     format!(in alloc; "{{\"error\":\"{name}\",\"number\":{number}}}")
 }
 
-/// The reply with this status to a problem, refusal or fault, with its name and number as JSON, and
-/// with a line `Allow` if `allow` gives a route. AllocError without memory.
+/// The reply with this status to a problem, refusal or fault, with its name and number as JSON (0
+/// if it has none), and with a line `Allow` if `allow` gives a route. AllocError without memory.
 pub fn error_message(
     alloc: Global,
     status: StatusCode,

@@ -44,8 +44,8 @@ impl<'a, C: Clock> Patience<'a, C> {
         }
     }
 
-    /// The time limit of the read or write that begins now, and the time now. TimedOut if no time
-    /// is left; else an error only if the clock gives one.
+    /// The time limit of the read or write that begins now (the time left, at most 10 seconds), and
+    /// the time now. TimedOut if no time is left; else an error only if the clock gives one.
     fn begin(&self) -> io::Result<(Duration, Instant)>
         ensures waits { IfOk result (λ begun. WaitsWithin self.now.left begun.0) }
         ensures over { as_nanos self.now.left ≡ 0
@@ -111,7 +111,7 @@ impl<'a, C: Clock> Peer<'a, C> {
 
 impl<'a, C: Clock> Read for Peer<'a, C> {
     /// Reads from the peer with a time-out, if the system sets it, of at most 10 seconds and the
-    /// time left. What this took is subtracted from the time left; TimedOut if none is left.
+    /// time left, which falls by what this took unless the clock fails. TimedOut if none is left.
     fn read(&mut self, buf: &mut [u8]) -> io::Result<usize>
         ensures bound { ReadsAtMost result buf.new }
         ensures bytes { ReadConsumes None None result buf.new }
@@ -131,7 +131,7 @@ impl<'a, C: Clock> Read for Peer<'a, C> {
 
 impl<'a, C: Clock> Write for Peer<'a, C> {
     /// Writes to the peer with a time-out, if the system sets it, of at most 10 seconds and the
-    /// time left. What this took is subtracted from the time left; TimedOut if none is left.
+    /// time left, which falls by what this took unless the clock fails. TimedOut if none is left.
     fn write(&mut self, buf: &[u8]) -> io::Result<usize>
         ensures bound { WritesAtMost result buf.now }
         ensures bytes { WriteAppends None None result buf.now }

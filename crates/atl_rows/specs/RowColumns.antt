@@ -5,8 +5,8 @@
 use Rattle.std.specs.Prelude.{ℕ, ℤ, pos, Bool, true, ◌&&◌, List, [], ◌∷◌, ⊤}
 use Rattle.atl_rows.specs.RowValues.{flag, as_u32, is_set, is_from}
 
--- What a column holds: a number from the first to the second; a number of another table's row, or 0, which rule 4
--- judges; a flag; a text.
+-- What a column holds: a number from the first to the second of two given ones; the number of another table's row, or
+-- 0, for which there is no range; a flag; a text.
 pub data Content : Type 0 where
   Whole : ℕ → ℕ → Content
   Reference : Content
@@ -69,6 +69,6 @@ still_in_range (Reference ∷ cs) so_far r = still_in_range cs so_far r.1
 still_in_range (Flag ∷ cs) so_far r = still_in_range cs (so_far && is_from 0 1 r.0) r.1
 still_in_range (Text ∷ cs) so_far r = still_in_range cs so_far r.1
 
--- whether each number of a row is in its column's range, and each flag is 0 or 1
+-- whether each number of a row is in its column's range, and each flag is 0 or 1; a reference may be any number
 abbrev pub row_in_range : (cs : List Content) → Fields cs → Bool
 row_in_range cs r = still_in_range cs true r

@@ -22,7 +22,7 @@ module _ {S : Type 0} (g : Ghosts S) (text : List ℕ) (old new : Held S) (w : W
   upgrades_to later =
       record { campaign = c; is_open = refl; upgrades = upgrades; text_is = λ clean. world_text_is (state g new) text c.value (upgrades.tables clean); later = later }
 
-  -- the service of an upgraded file keeps the invariant of services (`IsService`), as an open one
+  -- the service of an upgraded file is consistent, as an open one, and nothing of its campaign is marked (`IsService`)
   pub upgraded_consistent : IsService g new w c true
   upgraded_consistent =
       record { consistent = founded_consistent g new w c.value text upgrades.idle upgrades.good upgrades.world upgrades.tables; unmarked = λ up. upgrades.unmarked }

@@ -22,7 +22,8 @@ use Rattle.atl_commands.specs.Service.{ServiceValue, text_in}
 pub record Opens {S : Type 0} (g : Ghosts S) (old : Held S) (made : ServiceValue S) : Type 0 where
   pub campaign : MarkedCampaign
   pub is_open : made.campaign ≡ Some campaign.value
-  -- the loaded campaign is good, and, if the disk is clean, the tables hold it and a text of the world (`Loads`)
+  -- the loaded campaign is good and unmarked; if the disk is clean, the tables hold it and a text of the world
+  -- (`Loads`)
   pub loads : Loads g old made.conn made.world campaign
   -- If the disk is clean, nothing is changed while the connection is open, and a crash leaves what it could have left
   -- before (`Survives`). The connection is in a transaction exactly if it was in one (`LeavesAlone`).

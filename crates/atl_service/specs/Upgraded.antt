@@ -21,8 +21,8 @@ use Rattle.atl_commands.specs.Service.{ServiceValue, text_in}
 pub record UpgradesTo {S : Type 0} (g : Ghosts S) (old : Held S) (text : List ℕ) (made : ServiceValue S) : Type 0 where
   pub campaign : MarkedCampaign
   pub is_open : made.campaign ≡ Some campaign.value
-  -- the new text reads as the service's world, and, if the disk is clean, the tables held the upgraded campaign and
-  -- still do (`Upgrades`)
+  -- the new text reads as the service's world, the connection is in no transaction, and the campaign is unmarked; if
+  -- the disk is clean, the tables held the upgraded campaign and still do (`Upgrades`)
   pub upgrades : Upgrades g text old made.conn made.world campaign
   pub text_is : HasCleanDisk (state g made.conn) → text_in g made.conn ≡ text
   pub later : IsLater (state g old) (state g made.conn)
@@ -42,9 +42,8 @@ cause_of_upgrade_fault upgrade.Memory = Memory
 pub record RefusesUpgrade {S : Type 0} (g : Ghosts S) (old : Held S) (text : List ℕ) (why : Cause) (new : Held S) : Type 0 where
   pub fault : UpgradeFault
   pub why_is : why ≡ cause_of_upgrade_fault fault
-  -- The store may refuse the upgrade with this fault. If the disk is clean, the tables are as before while the
-  -- connection is open, and a crash leaves what it could have left before, or the upgraded campaign
-  -- (`RefusesToUpgrade`).
+  -- If the disk is clean, a check or the transaction failed with this fault (`RefusesToUpgrade`), and the tables are as
+  -- before while the connection is open. A crash then leaves what it could have left before, or the upgraded campaign.
   pub refused : RefusesToUpgrade g text old new fault
   -- a disk that isn't clean stays so, no failure is forgotten, and reads compared with digests stay so (`IsLater`)
   pub later : IsLater (state g old) (state g new)

@@ -13,14 +13,14 @@ use sqlite::{Alter, Connection};
 use std::alloc::Global;
 
 /// Founds a campaign by a world text and the moderator's pass text, in a database without tables.
-/// The campaign's books balance. The cause of a refusal is the first check that fails: World,
-/// BadPassText, NotEmpty, Store; or Memory at any of them. NotEmpty: there is a table `campaign`.
-/// Store: there is another table, an index or a view, the connection is in a transaction, or a call
-/// of the write gave another error than out of memory. After World, BadPassText and NotEmpty
-/// nothing is changed, nor after Memory if the text is no world or the pass text breaks its rule.
-/// After Store and Memory, if the disk is clean, the tables are as they were while the connection
-/// is open. A crash then leaves what it left before or the founded campaign. See docs/RULES.md,
-/// "Founding", and docs/FORMATS.md, "Faults of a world file" and "Tables".
+/// Its books balance. The cause of a refusal is the first check that fails: World, BadPassText,
+/// NotEmpty, Store; or Memory at any of them. NotEmpty: there is a table `campaign`. Store: there
+/// is another table, an index or a view, the connection is in a transaction, or the write failed,
+/// on a clean disk by a call's error other than out of memory. After World, BadPassText and
+/// NotEmpty nothing is changed, nor after Memory if the text is no world or the pass text breaks
+/// its rule. After Store and Memory, if the disk is clean, the tables are as they were while the
+/// connection is open. A crash then leaves what it left before or the founded campaign. See
+/// docs/RULES.md, "Founding", and docs/FORMATS.md, "Faults of a world file" and "Tables".
 pub fn found<S: Alter>(
     alloc: Global,
     mut conn: Connection<S>,
@@ -47,12 +47,12 @@ pub fn found<S: Alter>(
 
 /// Opens the campaign that the tables hold, a good one whose books balance, with its world. On a
 /// clean disk campaign and world are as they were stored, and the tables are unchanged, also, while
-/// the connection is open, after a refusal. NotACampaign: there is no table `campaign`, or it lacks
-/// a column. OldFormat: the table `campaign` has one row, whose format is the first, whatever else
-/// it says; `upgrade` is for such tables. Damaged: this is the first rule that the rows of the
-/// tables break. Store: the connection is in a transaction, the tables are not made as those of a
-/// campaign, or the database failed for another cause than memory. Memory: it ran out. See
-/// docs/FORMATS.md, "Rules of the tables".
+/// the connection is open, after a refusal. What a cause says is certain on a clean disk alone.
+/// NotACampaign: there is no table `campaign`, or it lacks a column. OldFormat: the table
+/// `campaign` has one row, whose format is the first, whatever else it says; `upgrade` is for such
+/// tables. Damaged: this is the first rule that the rows of the tables break. Store: the connection
+/// is in a transaction, the tables are not made as those of a campaign, or the database failed for
+/// another cause than memory. Memory: it ran out. See docs/FORMATS.md, "Rules of the tables".
 pub fn open<S: Alter>(alloc: Global, mut conn: Connection<S>) -> Result<Service<S>, Refused<S>>
     ensures ok { IfOk result (Opens S.Store conn) }
     ensures back { IfOk result (ComesBack S.Store conn) }
@@ -79,7 +79,8 @@ pub fn open<S: Alter>(alloc: Global, mut conn: Connection<S>) -> Result<Service<
 /// was; it is good, nothing is in stock, and its books balance. The cause of a refusal is the first
 /// check that fails. A refusal returns the connection; if the disk is clean, the tables are as they
 /// were while the connection is open, and a crash leaves what it left before or the upgraded
-/// campaign. NotACampaign: there is no table `campaign`, or it lacks a column. NotOld: the table
+/// campaign. What a cause says, and that the campaign is as it was, is certain on a clean disk
+/// alone. NotACampaign: there is no table `campaign`, or it lacks a column. NotOld: the table
 /// `campaign` has one row, whose format is the second, whatever else it says. Damaged: this is the
 /// first rule of the first format that the rows break. World: the new world text has this fault.
 /// Differs: the worlds differ in more than markets. Store: the connection is in a transaction, the

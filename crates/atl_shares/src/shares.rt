@@ -1,4 +1,5 @@
-//! The shares of a pot among wants. See docs/RULES.md, "Shares".
+//! The shares of a pot among wants. Where a call takes a pot and wants, each of them is at most
+//! 999,999,999. See docs/RULES.md, "Shares".
 ghost use Rattle.std.specs.Prelude.{◌≡◌, ◌≤◌, ◌<◌, ◌*◌, ℕ, length, sum, min, slice_index, All, IfOk};
 ghost use Rattle.atl_world.specs.Limits.{most_amount};
 ghost use Rattle.atl_shares.specs.Share.{IsNearPart, SplittingKeepsOthers, shares};
@@ -41,8 +42,7 @@ fn proportional_shares(alloc: Global, pot: u64, wants: &[u64]) -> Result<Vec<u64
 /// What each want gets of a pot, in the order of the wants: the whole want where the pot is enough
 /// for all, else its share. A share is never more than the want. All shares together are the lesser
 /// of the pot and of all wants. Where the pot is short, a share differs by less than one from the
-/// pot times its want divided by all wants. The pot and each want are at most 999,999,999.
-/// AllocError without memory. See docs/RULES.md, "Shares".
+/// pot times its want divided by all wants. AllocError without memory. See docs/RULES.md, "Shares".
 #[tactic(auto, using(crate::proofs::ShareLaws::share_at_most, crate::proofs::ShareLaws::share_is_near, crate::proofs::ShareLaws::all_is_given))]
 pub fn share(alloc: Global, pot: u64, wants: &[u64]) -> Result<Vec<u64>, AllocError>
     requires pot { pot ≤ most_amount }

@@ -1,5 +1,6 @@
 //! How the units of one faction in one region share their upkeep: what each pays and how many of
-//! its men starve. See docs/RULES.md, "Upkeep".
+//! its men starve. Where a call takes the maintenance, what one man costs in a month, it is at most
+//! 1,000, and units have at most 999,999 men and 999,999,999 money. See docs/RULES.md, "Upkeep".
 ghost use Rattle.std.specs.Prelude.{◌≡◌, ◌≤◌, [], ℕ, All, IfOk, OnOk};
 ghost use Rattle.atl_world.specs.Limits.{most_per_head};
 ghost use Rattle.atl_shares.specs.Accounts.{IsOpen, account_after, account_at, account_of, opened, upkeep_result_by};
@@ -105,7 +106,8 @@ fn open_accounts(
     Ok(accounts)
 }
 
-/// What upkeep takes from a unit in its turn. It changes `account`, of its faction in its region.
+/// What upkeep takes from a unit in its turn. It changes `account`, of the unit's faction in its
+/// region, which has given and covered at most `to_give`. The maintenance is at least 1.
 fn payment_of(maintenance: u32, account: &mut Account, input: &UpkeepInput) -> UpkeepResult
     requires some { 1 ≤ maintenance }
     requires most { maintenance ≤ most_per_head }
@@ -131,10 +133,9 @@ fn payment_of(maintenance: u32, account: &mut Account, input: &UpkeepInput) -> U
     }
 }
 
-/// What upkeep takes from each unit of `inputs`. They are in the order of their numbers, each once,
-/// with at most 999,999 men and 999,999,999 money. The units of one faction in one region pay for
-/// each other. The maintenance is what one man costs in a month, from 1 to 1,000. AllocError
-/// without memory. See docs/RULES.md, "Upkeep".
+/// What upkeep takes from each unit of `inputs`, which are in the order of their numbers, each
+/// once. The units of one faction in one region pay for each other. The maintenance is at least 1.
+/// AllocError without memory. See docs/RULES.md, "Upkeep".
 pub fn upkeep_payments(
     alloc: Global,
     maintenance: u32,

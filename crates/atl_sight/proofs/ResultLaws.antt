@@ -47,7 +47,7 @@ results_none faction [] events h =
     by_test true h rest = absurd (false≢true h)
     by_test false h rest = rest refl
 
--- where a line is faulty or an event is the faction's, its report has the faulty lines and then its own events there
+-- where a line is faulty or an event is the faction's, after `Orders:` come the faulty lines and then its own events
 pub results_lines : (faction : ℕ) (faults : List FaultyLine) (events : List Event)
     → ((length faults == 0) && not (list_any (λ (e : Event). e.faction == faction) events)) ≡ false
     → results_text faults (own_events faction events) ≡ faulty_lines faults ++ event_lines (own_events faction events)

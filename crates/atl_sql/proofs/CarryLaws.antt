@@ -37,8 +37,6 @@ pub write_checks_no_reference : (tables : List Table) (indexes : List Index) (tr
 write_checks_no_reference tables indexes tree free olds news =
     none_refer tables (work_for (all_tables_and_others tables indexes) Enforced 0 tree olds news) free
 
--- ---- indexes that make nothing unique find nothing
-
 -- if the indexes make nothing unique in table t, rows `new` and `r` share no unique value, whatever key is the `target`
 pub none_share : (t : Table) (target : Option (List ℕ)) (new r : Row) (indexes : List Index)
     → ((i : Index) → Has indexes i → guards i t ≡ false) → list_any (shares target t new r) indexes ≡ false
@@ -93,8 +91,6 @@ module _ (t : Table) (old new : Database) (has : HasTables old) (ours : Has all_
       → Makes schema t old new S → DoesAndKeeps Does old new
   done_with Does S is makes =
       record { does = is (altered S makes); tables = stays_there makes.schema_is makes.sound; carries = carried makes.schema_is makes.others }
-
--- ---- tables carried along by no write, and by two
 
 pub carries_none : (a : Database) → Carries a a
 carries_none a = record { tables = λ t there. there; indexes = λ i there. there; others = λ t there free. refl }

@@ -65,8 +65,6 @@ module _ (old new : State) where
   call_caused own e (inr (inside, inl failed)) other = by_failure _ e failed other
   call_caused own e (inr (inside, inr late)) other = inr (inr late.2)
 
--- ---- one statement after another
-
 module _ {S : Type 0} (g : Ghosts S) (own : Statements) where
   -- if `count` statements of `own` lead from `a` to `b`, and some lead from `b` to `c`, some lead from `a` to `c`
   pub reached_then : (count : ℕ) (a b c : Held S) → Leads g own count a b → IsReached g own b c → IsReached g own a c
@@ -163,8 +161,6 @@ module _ {S : Type 0} (g : Ghosts S) (own : Statements) (e : Error) where
         given = same.given;
         cause = same.cause;
       }
-
--- ---- of a result
 
 -- if the result `r` is the error `e`, and P holds of `e`, P holds of the error of `r`
 pub property_of_equal_error : {A E : Type 0} (P : E → Type 0) (r : Result A E) (e : E) → IsErrAnd r (λ f. f ≡ e) → P e

@@ -1,6 +1,6 @@
 -- Laws on the CREATE texts of the ten tables: which table each text makes, and that all of them make the schema.
 -- `before` and `after` are the schemas before and after a text is run, `old` and `new` the states. `g` is the kind of
--- store.
+-- store. A step is a call inside a transaction, by statements of a set (`Writes`).
 -- `schema_of_first` gives the schema of the first tables of a campaign, with the indexes of their keys.
 use Rattle.std.proofs.Common.{◌≡◌, ◌++◌, ◌∷◌, ◌+◌, ◌<◌, ℕ, false, cond, nat_eq, List, [], Result, Ok, get_or, length, map, refl, sym, ap, ◌∙◌, subst, zero-add}
 use Rattle.std.proofs.lemmas.List.{get_or-map, length-map}

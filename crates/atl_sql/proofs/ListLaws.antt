@@ -25,8 +25,6 @@ use Rattle.sqlite_trees.proofs.TreeLemmas.{all-put_row}
 use Rattle.sqlite_catalog.proofs.LayoutLemmas.{ascending_filter}
 use Rattle.atl_descriptions.specs.Sets.{AreKeyedByRowid}
 
--- ---- membership in a map
-
 pub has_map : {X Y : Type 0} (f : X → Y) (xs : List X) (x : X) → Has xs x → Has (map f xs) (f x)
 has_map f [] x h = absurd h
 has_map f (y ∷ xs) x (inl same) = inl (ap f same)

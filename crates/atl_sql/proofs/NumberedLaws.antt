@@ -64,7 +64,7 @@ pub record IsNumberedTable (t : Table) (at width : ℕ) : Type 0 where
   -- no index of the ten tables makes the number unique
   pub no_index_shares : (new x : Row) → list_any (shares (Some (0 ∷ [])) t new x) all_indexes ≡ false
 
--- one of the tables of a campaign, whose first column is the row's number
+-- a campaign's table of the index `at`, whose first column, `key_name`, is the row's number; `columns` are the others
 module _ (tree : ℕ) (name key_name : List ℕ) (columns : List Column) (uniques : List (List ℕ)) (at : ℕ) where
   abbrev width : ℕ
   width = length columns

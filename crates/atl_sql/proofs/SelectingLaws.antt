@@ -1,7 +1,8 @@
 -- Laws on a SELECT inside a transaction: what it leaves, and what is left once the transaction is rolled back.
 -- `rows` are the rows that it shows, and `e` is the error of a SELECT that is refused. `r` is the result of the call
--- that reads, and `g` the kind of store. `KeepsCommit` says that nothing was committed. `Asks` promises that Ok has the
--- rows that the SELECT shows and Err the fault of its refusal. `ReadsRows` promises it of rows read by their forms.
+-- that reads, and `g` the kind of store. `KeepsCommit` says that nothing was committed, if the connection is open.
+-- `Asks` promises that Ok has the rows that the SELECT shows, and Err the fault of its refusal; `ReadsRows` promises it
+-- of rows read by their forms.
 use Rattle.std.proofs.Common.{◌≡◌, ◌≢◌, ◌≤◌, ◌⊎◌, ℕ, Bool, List, [], true, false, cond, IsTrue, Option, Some, None, Result, Ok, Err, IsErrAnd, IfOk, IfErr, map, length, refl, sym, ap, ◌∙◌, subst, inl, inr, arith}
 use Rattle.std.specs.declared.vec.Vec.{Vec}
 use Rattle.sqlite_trees.specs.declared.store.Store.{Ghosts}
@@ -148,7 +149,8 @@ module _ {S A Z : Type 0} (g : Ghosts S) (sql : List ℕ) (old new : Held S) (fo
     idle = asks.idle;
   }
 
-  -- if the SELECT showed rows, and `r` is what parsing these (`lent`) gave, all was read as promised (`ReadsRows`)
+  -- If the SELECT showed rows, and `r` is what parsing these (`lent`) gave, all was read as promised (`ReadsRows`).
+  -- Premises: Ok has a value of each row, all in their forms; Err is OtherType only if some aren't, and else Memory.
   pub parsed : {Y : Type 0} (rows : Vec Row Y) (lent : List Row) (r : Result (Vec A Z) ReadFault)
       → Asks g sql old (Ok rows) new → lent ≡ rows.items
       → IfOk r (λ all. map shown all.items ≡ map (first_columns (length forms)) lent) → IfOk r (λ _. AreTyped forms lent) → IfErr r (λ fault. fault ≡ OtherType → ¬ AreTyped forms lent) → IfErr r (λ fault. fault ≢ OtherType → fault ≡ Memory) → ReadsRows g sql old forms shown r new

@@ -168,8 +168,8 @@ pub done_by : (sql : List ℕ) (values : Row) (What : Database → Database → 
 done_by sql values What does old new count params inside h same =
     does old new count inside (subst (λ p. ExecutesInside 0 sql p old new (Ok count)) same h)
 
--- A step that ran a statement which does `What` (`DoneBy`) did `What`. It returned r and led from a to b; `params` and
--- `values` are the same parameters.
+-- A call (`Writes`) that ran a statement which does `What` (`DoneBy`) did `What`. It returned r and led from a to b;
+-- `params` and `values` are the same parameters.
 pub runs_with : {S A : Type 0} (g : Ghosts S) {r : Result A Error} {a b : MutBor (Held S)} (sql : List ℕ) (values params : Row) (What : Database → Database → Type 0)
     → DoneBy sql values What → params ≡ values → Writes g (OneStatement sql params) (RunsStatement sql params) r a b
     → Writes g (OneStatement sql values) (DoesInside HasTables What) r a b

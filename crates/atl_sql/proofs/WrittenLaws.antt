@@ -158,8 +158,6 @@ drops_any Structures is key fits = let (n, key_is) = one_of_key key fits in rw k
 drops_any Mail is key fits = let (n, key_is) = one_of_key key fits in rw key_is (drops_part Mail tt n)
 drops_any Reports is key fits = let (n, key_is) = one_of_key key fits in rw key_is (drops_part Reports tt n)
 
--- ---- what a call wrote, in other words
-
 -- a call returns r, and leads from a to b, on a store of the kind g; the key of the table t is its first `key` columns
 module _ {S A : Type 0} (g : Ghosts S) (t : Table) (key : ℕ) {r : Result A Error} {a b : MutBor (Held S)} where
   pub written_as : (row values : Row) → row ≡ values → WritesRow g t key row r a b → WritesRow g t key values r a b

@@ -1,5 +1,5 @@
 -- Which call inside a transaction gave an error of the database, and why. `g` is the kind of store, in memory or in
--- files, and `state g conn` the state of the database under a connection.
+-- files, and `state g conn` the state of the database under a connection. A step is a part of a transaction.
 use Rattle.std.specs.Prelude.{◌≡◌, ◌⊎◌, ℕ, zero, suc, List, true, false, IsTrue, Ok, Err}
 use Rattle.sqlite_disk.specs.Disk.{MoreFaults}
 use Rattle.sqlite_trees.specs.declared.store.Store.{Ghosts}
@@ -34,7 +34,8 @@ IsGiven own e before after =
     ((sql : List ℕ) × (params : Row) × own sql params × ExecutesInside 0 sql params before after (Err e))
     ⊎ (IsTrue before.in_transaction × FailsToCommit before after e)
 
--- a cause of an error: the disk failed between the two states, or the connection was shut already in the first
+-- a cause of an error: between the two states the disk failed, or its count of failures was at its top already
+-- (`MoreFaults`); or the connection was shut already in the first state
 abbrev pub IsBroken : State → State → Type 0
 IsBroken old new = MoreFaults old.faults new.faults ⊎ (old.is_open ≡ false)
 
@@ -56,7 +57,7 @@ pub record Gives {S : Type 0} (g : Ghosts S) (own : Statements) (e : Error) (old
   -- from the connection `old`, once the transaction has begun, to the call that gave the error, only statements of
   -- `own` ran
   pub reached : IsReached g own (record old { in_transaction = true }) before
-  -- nothing was committed before the call that gave the error
+  -- nothing was committed before the call that gave the error, if the connection was still open then
   pub kept : KeepsCommit (state g old) (state g before)
   -- the call that gave the error is a statement of `own`, or the commit, and ended with this error
   pub given : IsGiven own e (state g before) (state g after)

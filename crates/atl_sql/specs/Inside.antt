@@ -35,8 +35,8 @@ pub record DoesAndKeeps (Does : Database → Database → Type 0) (old new : Dat
   pub tables : HasTables new
   pub carries : Carries old new
 
--- A step: if the database was as `Before` says, `Does` is done to it, the ten tables are there, and all others are kept
--- (`DoesAndKeeps`). In any case the connection is in a transaction afterwards exactly if it was before.
+-- Inside a transaction: if the database was as `Before` says, `Does` is done to it, the ten tables are there, and all
+-- others are kept (`DoesAndKeeps`). In any case the connection is in a transaction exactly if it was before.
 abbrev pub DoesInside : (Database → Type 0) → (Database → Database → Type 0) → State → State → Type 0
 DoesInside Before Does old new = (new.in_transaction ≡ old.in_transaction) × (Before old.now → DoesAndKeeps Does old.now new.now)
 

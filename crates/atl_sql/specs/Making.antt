@@ -9,10 +9,10 @@ use Rattle.sqlite_rules.specs.Lists.{Has}
 use Rattle.atl_descriptions.specs.Sets.{rows_in}
 use Rattle.atl_descriptions.specs.Tables.{all_tables}
 
--- after the step none of the ten tables has a row, whatever there was before
+-- in the database `new` none of the ten tables has a row, whatever there was in `old` before
 abbrev pub AreEmpty : Database → Database → Type 0
 AreEmpty old new = (t : Table) → Has all_tables t → rows_in t new.trees ≡ []
 
--- whether the schema has a table named `campaign`
+-- whether the schema has a table named just `campaign`, in lower case
 abbrev pub has_campaign : Schema → Bool
 has_campaign schema = list_any (λ t. pointwise nat_eq t.name (codes "campaign")) schema.tables

@@ -8,7 +8,7 @@ use Rattle.atl_sql.specs.Shown.{CampaignRowValue, campaign_row, campaign_row_in}
 use Rattle.atl_sql.specs.Inside.{Puts}
 
 -- Putting the campaign row: an empty table gets a row of the second format with the values `head` and the text `world`.
--- If the only row is of the second format, it gets these values and keeps its text. Other tables stay (`Puts`).
+-- An only row of the second format gets these values and keeps its text. A campaign's other tables stay (`Puts`).
 pub record PutsCampaignRow (head : CampaignRowValue) (world : List ℕ) (old new : Database) : Type 0 where
   pub first : rows_in campaign_table old.trees ≡ [] → Puts campaign_table 1 (campaign_row head world) old new
   pub again : (before : CampaignRowValue) (text : List ℕ)

@@ -17,7 +17,7 @@ use Rattle.atl_sql.specs.Stored.{first_columns, AreTyped}
 use Rattle.atl_sql.specs.declared.fault.ReadFault.{ReadFault}
 use Rattle.atl_sql.specs.declared.fault.ReadFault.TheVariants.{OtherType, Memory}
 
--- Nothing is committed: an open connection was open before, and its tables are as they were or as last committed.
+-- a connection that is open was open before, nothing is committed, and its tables are as they were or as last committed
 pub record Rests (old new : State) : Type 0 where
   pub was_open : IsTrue new.is_open → IsTrue old.is_open
   pub same : IsTrue new.is_open → ((new.now ≡ old.committed) ⊎ (new.now ≡ old.now)) × (new.committed ≡ old.committed)

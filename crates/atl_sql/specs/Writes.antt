@@ -33,7 +33,7 @@ pub record Writes {S : Type 0} (g : Ghosts S) (own : Statements) (Does : State �
   pub error_given : HasCleanDisk (state g new.now)
       → IsTrue (state g old.now).in_transaction
       → IfErr result (λ e. Gives g own e old.now new.now)
-  -- The step has committed nothing, if the disk is clean.
+  -- A connection that is open was open before the step, which has committed nothing, if the disk is clean.
   pub kept : HasCleanDisk (state g new.now) → KeepsCommit (state g old.now) (state g new.now)
   -- On a clean disk a crash leaves only what it could have left before, and only a failure closes the connection.
   -- A disk that isn't clean stays so, and no failure is forgotten. The limit on a query's steps stays, and so does a

@@ -16,8 +16,6 @@ use Rattle.atl_records.proofs.AmountListLaws.{all_append}
 use Rattle.atl_campaign.proofs.GroupLaws.{filter_apart, kept, unkept}
 use Rattle.atl_campaign.proofs.MapOfRowsLaws.{HaveDistinctNumbers, rows_found}
 
--- ---- what holds for each element of joined lists
-
 module _ {X R : Type 0} (P : R → Type 0) (f : X → List R) where
   -- what holds of each element of the lists that f makes holds of each element of these lists joined
   pub flat_each : (xs : List X) → AllByRecursion (λ x. AllByRecursion P (f x)) xs → AllByRecursion P (flat_map f xs)

@@ -57,8 +57,6 @@ use Rattle.atl_state.proofs.DifferLaws.{entries_differ}
 use Rattle.atl_state.proofs.GoodRowLaws as row
 use Rattle.atl_world.proofs.KeyLaws.{IsDistinct-map}
 
--- ---- tests that pass
-
 and_true : (a b : Bool) → a ≡ true → b ≡ true → (a && b) ≡ true
 and_true a b h k = ap (λ x. x && b) h ∙ k
 

@@ -1,7 +1,7 @@
 -- Laws on reading several tables one after another: each read sees the tables as they were before the first.
 -- The connection is `old` before the first read, `mid` after some of them, and `new` after all. Of two lists of
 -- SELECTs, `xs` is asked first, with the result `one`, and then `ys`, with `two`. `r` is the result of all reads, and
--- `P` and `Q` say what holds of what was found.
+-- `P`, `Q` and `R` say what holds of what was found.
 -- `o` is what all reads found: None if a value is of another type than its column. `g` is the kind of store.
 use Rattle.std.proofs.Common.{◌≡◌, ◌≢◌, ◌⊎◌, ◌++◌, ℕ, List, [], ◌∷◌, Bool, true, false, not, true≢false, IsTrue, Option, Some, None, Result, Ok, Err, IfOk, IfErr, IsErrAnd, map, refl, sym, ◌∙◌, subst, inl, inr, arith}
 use Rattle.std.specs.Option.{option_zip}
@@ -89,7 +89,7 @@ module _ {S : Type 0} (g : Ghosts S) where
     idle = two.idle;
   }
 
-  -- if the tables were those of the last commit before reads, they are so after them
+  -- if the tables were those of the last commit before reads, they are so after them (`IsCommitted`)
   pub settled_then : (old new : Held S) → IsCommitted (state g old) → AfterReads g old new → IsCommitted (state g new)
   settled_then old new settled leaves clean up =
       let stays = leaves.stays clean in
@@ -297,7 +297,7 @@ module _ {S : Type 0} (g : Ghosts S) where
     leaves = first.leaves;
   }
 
-  -- the second stage begins at `mid`, where the first ended
+  -- reading by `xs` ended at `mid` without a fault, and found `a`; reading by `ys` begins there
   module _ {A B : Type 0} (xs ys : List (List ℕ × List Form)) (P : A → Type 0) (Q : B → Type 0) (old mid new : Held S) (one : Result (Option A) LoadFault) (two : Result (Option B) LoadFault)
       (first : ReadsSome g old xs P one mid) (second : ReadsSome g mid ys Q two new) (a : Option A) (was_first : one ≡ Ok a) where
     -- if reading by the first list succeeds, a fault of reading by the second, `ys`, is one of reading by both
@@ -329,8 +329,8 @@ module _ {S : Type 0} (g : Ghosts S) where
         clean_mid : HasCleanDisk (state g new) → HasCleanDisk (state g mid)
         clean_mid clean = omega (arith, second.leaves.survives.clean, clean)
 
-  -- reading all rows of some tables and then of others reads all rows of both; `some` and `others` give the rows of
-  -- what was read, by part
+  -- if both succeed, reading all rows of some tables and then of others reads all rows of both; `some` and `others`
+  -- give the rows of what was read, by part
   pub both_read : {A B : Type 0} (xs ys : List (List ℕ × List Form)) (some : A → ReadRows) (others : B → ReadRows) (old mid new : Held S) (one : Result (Option A) LoadFault) (two : Result (Option B) LoadFault)
       → ReadsSome g old xs (λ a. AreAllRows (state g old).now (some a)) one mid → ReadsSome g mid ys (λ b. AreAllRows (state g mid).now (others b)) two new
       → (a : Option A) → one ≡ Ok a → (b : Option B) → two ≡ Ok b → (o : Option (A × B)) → o ≡ option_zip a b → ReadsSome g old (xs ++ ys) (λ x. AreAllRows (state g old).now (some x.0 ++ others x.1)) (Ok o) new

@@ -196,6 +196,7 @@ module _ {A : Type 0} {part : Part} {stored : RowWithId A → Row} {values : A �
   pub placed_apart : HaveDistinctIntegers (column_count part) (map stored placed) → HaveDistinctRowids placed
   placed_apart keys = numbers_apart stored (λ s. s.rowid) (column_count part) is.place_is placed keys.apart
 
+-- rows of `has`, `books` and `market` that were read with rowids are shown as their values and then the rowid
 pub has_placed : IsPlacedAs Goods has_stored has_row_values
 has_placed = record { values_are = λ s. refl; place_is = λ s. refl }
 
@@ -223,7 +224,7 @@ made_whole {p} {rows} part free are = record {
 }
 
 -- a part that is shown with rowids is made of what was read (`IsMadeAs`), if `p` has the rows that were read, without
--- their rowids, and no two rowids are alike
+-- their rowids, whatever world text is given, and no two rowids are alike
 pub made_placed : {p : Parts} {A : Type 0} {part : Part} {stored : RowWithId A → Row} {values : A → Row}
     → IsPlacedAs part stored values → shows_rowids part ≡ true → (placed : List (RowWithId A))
     → ((text : List ℕ) → rows_read text p part ≡ map values (map (λ s. s.row) placed)) → HaveDistinctRowids placed → IsMadeAs p (part, map stored placed)

@@ -258,7 +258,7 @@ module _ (f : Format) {S : Type 0} (g : Ghosts S) {A : Type 0} (rows : A → Rea
       → FoundBySelects g old (other_selects f) (λ a. AreOfFormat f (state g old).now (rows a)) says
   found says is = subst (FoundBySelects g old (other_selects f) (λ a. AreOfFormat f (state g old).now (rows a))) is (format_before g f rows old mid new before (other_selects f) r reads o was clean)
 
-  -- the parts put together of what was read are the rows of all tables (`GathersAll`)
+  -- if each value is of its column's type, `p`, made of the campaign row and `a`, is all tables' rows (`GathersAll`)
   pub gathered_with : (a : A) → o ≡ Some a → (p : Parts) (head : StoredCampaignRow) → head ≡ own.head
       → IsMadeOf head (rows a) p → GathersAll f g old w p
   gathered_with a is p head same made = let all = found (Some a) is in gathered_of f g old own w (rows a) p row all.0 all.1 head same made

@@ -52,8 +52,6 @@ use Rattle.atl_store.proofs.KeyedLaws.{mapped_twice, lines_keys, one_keys, numbe
 use Rattle.atl_sql.proofs.ListLaws.{has_map, map_has}
 use Rattle.atl_sql.proofs.PartLaws.{all_among, is_among, not_among}
 
--- ---- rows of a table, rows that were read of it, and rows that are made of a campaign
-
 -- `rows` are those of a table, `read` those read of it, `made` those made of `c`; `shown` gives a row as SQL shows it
 module _ {A : Type 0} (shown : A → Row) (rows : List Row) (read made : List A) (in_table : IsPermutation rows (map shown read)) (of_them : IsPermutation made read) where
   rows_made : IsPermutation rows (map shown made)
@@ -290,7 +288,7 @@ no_markets First p none = nothing p.markets (none [] Markets (not_among (parts_i
     nothing (row ∷ rows) is = absurd (let k = is in cc)
 no_markets Second p none = refl
 
--- rows with one campaign row alone, of id 1 and this format, and none of parts that it lacks, keep the first rule
+-- rows keep the first rule: one campaign row, of id 1 and this format, and, for any text, none of parts that it lacks
 pub keeps_one_row : (f : Format) (w : WorldValue) (p : Parts) (h : StoredCampaignRow) → h.id ≡ pos 1
     → h.format ≡ pos (format_number f) → p.campaign ≡ h ∷ []
     → ((text : List ℕ) (part : Part) → ¬ Has (parts_in f) part → rows_read text p part ≡ []) → KeepsRule f w p OneRow

@@ -1,6 +1,6 @@
 -- Laws on opening a file again after a crash: the campaign that the file stores is held again.
 -- `old` is the connection before the crash, and `new` the one that is opened again; `g` is the kind of store, and
--- `text` the world text.
+-- `text` the world text. `faults` counts the failures of the disk before the command that failed.
 use Rattle.std.proofs.Common.{◌≡◌, ◌⊎◌, ℕ, List, sym, ap, ◌∙◌, subst, inl, inr}
 use Rattle.sqlite.specs.Effect.{Database}
 use Rattle.sqlite.specs.Held.{Held, state}

@@ -97,8 +97,6 @@ one_index tables apart row a b one two =
     let table : one.table ≡ two.table = named_once tables one.table two.table apart one.listed two.listed (ap (same_name one.table.name) (sym owner) ∙ same_itself one.table.name) in
     one_defined one.table a b (column row 4) tree name one.defined (subst (λ t. IsDefined t b (column row 4)) (sym table) two.defined)
 
--- ---- views
-
 no_views : (rows : List Row) (none views : List View) → none ≡ [] → AllZip IsViewRow rows none
     → AllZip IsViewRow rows views → views ≡ []
 no_views [] none [] is one two = refl

@@ -58,7 +58,8 @@ module _ {S : Type 0} (g : Ghosts S) (text : List ℕ) (old mid : Held S) (alone
   bare_before : (w : WorldValue) (c : MarkedCampaign) → LoadsIn First g old mid w c → without_markets w ≡ w
   bare_before w c loads = old_has_no_markets (world_text (state g mid)) w (loads.world clean)
 
-  -- the tables hold the loaded campaign in the first format; the new text differs in markets alone (`MatchesNewText`)
+  -- If all is ready for the upgrade (`IsReadyToUpgrade`), the tables held the campaign in the first format before it
+  -- was loaded. The world of the new text differs from the campaign's in markets alone (`MatchesNewText`).
   pub matched : (w : WorldValue) (c : MarkedCampaign) → IsReadyToUpgrade g text old mid w c
       → MatchesNewText (state g old) text w c.value
   matched w c ready = record {
@@ -104,7 +105,7 @@ later_both old mid new FirstMayLeave SecondMayLeave one two =
 
 -- `old` is the connection before `upgrade`, `new` after a failed check, and `text` the new world text
 module _ {S : Type 0} (g : Ghosts S) (text : List ℕ) (old new : Held S) where
-  -- a fault of loading in the first format is one that a check of `upgrade` may return, by its name there
+  -- a fault of loading in the first format is one of a check of `upgrade`, which names it as `first_format_fault` says
   pub fails_to_load : (fault : LoadFault) → RefusesToLoadIn First g old fault
       → FailsCheck g text old new (first_format_fault fault)
   fails_to_load load.Store refused = inl refused
@@ -113,8 +114,8 @@ module _ {S : Type 0} (g : Ghosts S) (text : List ℕ) (old new : Held S) where
   fails_to_load load.OtherFormat refused = refused
   fails_to_load load.Memory refused = inl refused
 
-  -- if the tables hold a campaign (`HasOld`), a fault of reading the new text is one that a check of `upgrade` may
-  -- return, by its name there
+  -- if the tables held a good campaign in the first format (`HasOld`), a fault of reading the new text is one that a
+  -- check of `upgrade` may return, named as `new_world_fault` says
   pub fails_to_read : (fault : WorldFault) → Reads (λ (w : WorldValue). w) (Err fault) (world_of text)
       → HasOld g text old new → FailsCheck g text old new (new_world_fault fault)
   fails_to_read world.NotToml reads was = (was, reads, λ e. absurd cc)
@@ -222,7 +223,8 @@ module _ {S : Type 0} (g : Ghosts S) (text : List ℕ) (old mid new : Held S) (w
     fails_to_write e true is gave clean_mid = broken_off e true is gave clean_mid
     fails_to_write e false is gave clean_mid = broken_off e false is gave clean_mid
 
-    -- an upgrade is refused with the fault of an error of its transaction; the tables are as they were, on a clean disk
+    -- An upgrade is refused with the fault of its transaction's error. On a clean disk the tables are as they were
+    -- while the connection is open, and a crash leaves what it could have left before, or the upgraded campaign.
     pub refused_after : (e : Error) → (HasCleanDisk (state g new) → Gives g (OfUpgrade text c.value) e mid new)
         → RefusesToUpgrade g text old new (upgrade_fault e)
     refused_after e gave = record {

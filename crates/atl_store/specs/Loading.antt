@@ -110,7 +110,8 @@ AreOfOtherFormat f rows = (row : Row) × (rows ≡ row ∷ []) × (column row 1 
 
 -- ---- the other tables
 
--- the form that each column's value has to be of when a part's rows are read, in the order of the columns
+-- the forms of which the values of a part's rows have to be when they are read: those of its columns, and a number for
+-- the rowid, where it is shown after them
 abbrev pub forms_of : Part → List Form
 forms_of Own = campaign_forms
 forms_of Factions = faction_forms
@@ -346,9 +347,9 @@ module _ (f : Format) {S : Type 0} (g : Ghosts S) (old : Held S) where
   RefusesToLoadIn OtherFormat = HasOtherFormat
   RefusesToLoadIn Memory = MayReturnMemory g old
 
--- The tables of the format hold exactly the rows of the text and the campaign, and all is committed.
--- The connection is open and in no transaction.
--- The trees list and obey the schema, and the rowids of each table are integers, no two alike.
+-- The schema begins with the tables of the format, which hold exactly the rows of the text and the campaign.
+-- All is committed. The connection is open and in no transaction.
+-- The trees list and obey the schema, and the rowids of each of these tables are integers, no two alike.
 pub record KeepsIn (f : Format) (s : State) (text : List ℕ) (c : CampaignValue) : Type 0 where
   pub idle : s.in_transaction ≡ false
   pub is_open : IsTrue s.is_open

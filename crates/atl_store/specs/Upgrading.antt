@@ -42,7 +42,8 @@ pub record MatchesNewText (s : State) (text : List ℕ) (w : WorldValue) (c : Ca
   -- the tables hold the campaign in the first format, with a text of `w` without markets
   pub held : HoldsOld s (without_markets w) c
 
--- a crash leaves what it could have left before, or the upgraded campaign with the new text
+-- a crash leaves what it could have left before, or the campaign that the tables held in the first format, now in the
+-- second and with the new text, if this matches (`MatchesNewText`)
 abbrev pub MayUpgrade : State → List ℕ → State → Type 0
 MayUpgrade old text new =
     (db : Trees) → new.may_leave db

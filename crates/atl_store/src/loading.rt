@@ -23,7 +23,7 @@ use std::alloc::Global;
 
 /// Reads the rows of all tables of the format, and the world. A value of another type than its
 /// column, in another table than `campaign`, gives Damaged by the second rule, `Ranges`. All is
-/// committed before, `conn` is in no transaction, and what is read is promised on a clean disk.
+/// committed before, `conn` is in no transaction, and the answer is promised on a clean disk.
 fn gather<S: Alter>(
     alloc: Global,
     conn: &mut Connection<S>,
@@ -65,9 +65,9 @@ fn load_idle<S: Alter>(
     Ok((world, campaign))
 }
 
-/// Loads the campaign from tables of this format; it is good, and nothing of it is marked. Nothing
-/// is changed. The faults come as those of `load`, but with OtherFormat for one campaign row of the
-/// other format. All but that the campaign is good and unmarked is promised on a clean disk.
+/// Loads the campaign from tables of this format; it is good, and nothing of it is marked. All else
+/// is promised on a clean disk. Nothing is changed while `conn` is open. The faults come as those
+/// of `load`, but with OtherFormat for one campaign row of the other format.
 pub(crate) fn load_as<S: Alter>(
     alloc: Global,
     conn: &mut Connection<S>,
@@ -85,17 +85,18 @@ pub(crate) fn load_as<S: Alter>(
 }
 
 /// Loads the campaign that the tables hold, with its world; nothing of it is marked, and it is
-/// good. Nothing is changed, whatever is answered. NotACampaign: the SELECT of the campaign row is
-/// refused, and not for memory, the disk, a closed connection, size or too many steps. OldFormat:
-/// the table `campaign` has one row, whose format is the first, whatever else it says. Damaged: the
-/// rows break this rule of the tables, and none before it; a value of another type in the campaign
-/// row breaks the first, one in another table the second. Store: the connection is in a
-/// transaction, this SELECT is refused for one of those causes but memory, a later one for any
-/// cause but memory, or the disk fails. Store also comes if the tables or indexes are not made as
-/// `create` makes them, two rows of the table `has`, `books` or `market` have the same rowid, or
-/// there is a view or a trigger. Memory: memory runs out. All of this, but that the campaign is
-/// good and unmarked, is promised on a clean disk (docs/PROVED.md, "Premises"). See
-/// docs/FORMATS.md, "Rules of the tables".
+/// good. Whatever is answered, nothing is changed while the connection is open; only a disk failure
+/// shuts it. NotACampaign: the SELECT of the campaign row is refused, and not for memory, the disk,
+/// a closed connection, size or too many steps. OldFormat: the table `campaign` has one row, whose
+/// format is the first, whatever else it says. Damaged: the rows break this rule of the tables, and
+/// none before it; a value of another type in the campaign row breaks the first, one in another
+/// table the second. Store: the connection is in a transaction, or this SELECT is refused for one
+/// of those causes but memory. Where the first rule is kept, Store also comes if a later SELECT is
+/// refused for any cause but memory, or the disk fails. If all values have their types, it comes,
+/// before Damaged, where the tables or indexes are not made as `create` makes them, two rows of the
+/// table `has`, `books` or `market` have one rowid, or there is a view or a trigger. Memory: memory
+/// runs out. All but that the campaign is good and unmarked is promised on a clean disk
+/// (docs/PROVED.md, "Premises"). See docs/FORMATS.md, "Rules of the tables".
 pub fn load<S: Alter>(
     alloc: Global,
     conn: &mut Connection<S>,

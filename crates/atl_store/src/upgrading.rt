@@ -17,6 +17,7 @@ use sqlite::{Alter, Connection};
 use std::alloc::Global;
 
 /// Loads the campaign in the first format, and reads the new world, which differs in markets alone.
+/// Which fault comes, and that nothing is changed while `conn` is open, holds on a clean disk.
 fn world_and_campaign<S: Alter>(
     alloc: Global,
     conn: &mut Connection<S>,
@@ -44,16 +45,16 @@ fn world_and_campaign<S: Alter>(
 /// The table of markets is made, without a row, and the campaign row gets the format and the text.
 /// With Ok the tables held a campaign in the first format, with a text of the same world without
 /// markets, and the connection, in no transaction, holds it with the new text. It is good, and
-/// nothing is in stock or marked; the answer is it and the world of the text. NotACampaign and
-/// Damaged are returned as by `load`, by the rules of the first format. NotOld: `campaign` has one
-/// row, whose format is the second, whatever else it says. World: the new text is no world.
-/// Differs: its world differs from that of the old text in more than markets. Store is returned as
-/// by `load`, too; or there are more tables or indexes than those of the first format; or the
-/// database gives an error that is not lack of memory. Memory: memory ran out. After a fault the
-/// tables are as they were while the connection is open, and a crash leaves what it left before or,
-/// where the transaction was begun, the upgraded campaign. What the tables hold or held, which
-/// fault comes, and what a crash leaves, is promised on a clean disk (docs/PROVED.md, "Premises").
-/// See docs/FORMATS.md, "Upgrading a file".
+/// nothing is in stock or marked; the answer is it and the world of the text. NotACampaign, Damaged
+/// and Store are returned as by `load`, by the rules of the first format. NotOld: `campaign` has
+/// one row, whose format is the second, whatever else it says. Once a campaign is loaded, World:
+/// the new text is no world. Differs: its world differs from the old text's in more than markets.
+/// Store also comes after these checks: there are more tables or indexes than those of the first
+/// format, or the transaction gives an error that is not lack of memory. Memory: memory ran out.
+/// After a fault the tables are as they were while the connection is open, and a crash leaves what
+/// it left before or, where the transaction was begun, the upgraded campaign. What the tables hold
+/// or held, which fault comes, and what a crash leaves, is promised on a clean disk
+/// (docs/PROVED.md, "Premises"). See docs/FORMATS.md, "Upgrading a file".
 pub fn upgrade<S: Alter>(
     alloc: Global,
     conn: &mut Connection<S>,

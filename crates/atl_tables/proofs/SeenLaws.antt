@@ -1,6 +1,6 @@
 -- Laws of a set of the names seen so far, in ASCII lower case, by which a loop finds a name that comes twice. `seen` is
 -- the set before a name is put in, `grown` the set after it, and `new` says whether the name was missing before.
--- `title` gives the name of an element.
+-- `title` gives the name of an element, and Z is the allocator of the set's texts.
 use Rattle.std.proofs.Common.{◌≡◌, ℕ, ◌+◌, ◌<◌, Bool, true, false, not, cond, ◌||◌, List, length, map, take, get_or, refl, sym, ap, ◌∙◌}
 use Rattle.std.proofs.lemmas.List.Folds.{list_any_more}
 use Rattle.std.proofs.lemmas.Map.Text.{btree_set_updates_text}

@@ -1,4 +1,4 @@
--- For proofs alone: the bounds of a world file's tables once read, with items, skills and terrains still by name.
+-- For proofs alone: bounds of a world file's tables as read, with names not looked up. The rule of names is `name_ok`.
 use Rattle.std.specs.Prelude.{◌≡◌, ◌≤◌, true, length, map}
 use Rattle.std.specs.List.{All}
 use Rattle.atl_world.specs.Limits.{most_terrains, most_items, most_skills, most_kinds, most_regions, last_region, most_amount, most_per_head, most_price, most_fraction, most_growth, most_weight, last_level, most_raw_count, most_size}

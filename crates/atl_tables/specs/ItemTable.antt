@@ -46,7 +46,8 @@ abbrev pub other_than : ℕ → Option ℕ → Option ℕ
 other_than i None = None
 other_than i (Some n) = if n == i then None else Some n
 
--- the conditions that `skill` and `raw` of the i-th item, if there, name a skill and another item; else UnknownName
+-- the conditions that `skill` and `raw` of the i-th item, if there, name a skill and another item, ignoring ASCII case;
+-- else UnknownName
 unfoldable pub item_known : WorldDraft → ℕ → ItemDraft → Conditions
 item_known all i d =
     optional_name_is_known (path (element_path (codes "item") i) (codes "skill")) (skill_number all) d.making.skill

@@ -51,7 +51,7 @@ number_key least most key = one_key 0 (number_at least most key)
 abbrev pub number_or_key : ℕ → ℕ → ℕ → List ℕ → TableReader ℕ
 number_or_key default least most key = one_key default (number_or_at default least most key)
 
--- reads a key that must be a name; with a fault its value is the empty text
+-- reads a key that must be a text by the rule of names (`name_ok`); with a fault its value is the empty text
 abbrev pub name_key : List ℕ → TableReader (List ℕ)
 name_key key = one_key [] (name_at key)
 

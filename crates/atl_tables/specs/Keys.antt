@@ -1,7 +1,7 @@
 -- One key of a table of the world file: the value under it, by type, range and default, or its fault.
 -- See docs/FORMATS.md, "The world file".
 -- p is the path of a key, and `at` that of its table; t has the members of this table, and `doc` those of the whole
--- document. `read` turns the value under the key into a result.
+-- document. `read` turns the value under the key into a result. The rule of names is `name_ok`.
 use Rattle.std.specs.Prelude.{ℕ, suc, ℤ, pos, negsuc, Bool, ◌&&◌, nat_le, if◌then◌else◌, List, codes, Option, Some, None, Result, Ok, Err}
 use Rattle.std.specs.Fmt.{decimal}
 use Rattle.toml.specs.Data.{Data, Items, no_items, item, Members, no_members, get_member, as_integer, as_str, as_bool, as_array, as_table}

@@ -52,7 +52,7 @@ abbrev pub kind_from : List ℕ → Members → KindDraft
 kind_from = value_of kind_at
 
 -- the conditions on the names in the i-th kind: `material` names an item, `skill` a skill, and `helps`, if it is there,
--- a skill; else UnknownName
+-- a skill, ignoring ASCII case; else UnknownName
 unfoldable pub kind_known : WorldDraft → ℕ → KindDraft → Conditions
 kind_known all i d =
     name_is_known (path (element_path (codes "kind") i) (codes "material")) (item_number all d.building.material)

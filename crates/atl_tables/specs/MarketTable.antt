@@ -72,7 +72,7 @@ markets_from at t = list_of market_from (market_path at) (optional_array_at most
 abbrev pub duplicate_items : List ℕ → List MarketDraft → Conditions
 duplicate_items at ds = no_duplicates (λ d. d.item) (market_path at) (codes "item") ds
 
--- the condition that the key `item` of a market names an item of the world; else the fault UnknownName
+-- the condition that the key `item` of a market names an item, ignoring ASCII case; else the fault UnknownName
 unfoldable pub market_known : WorldDraft → MarketDraft → Conditions
 market_known all d = name_is_known (path d.table_path (codes "item")) (item_number all d.item) ∷ []
 

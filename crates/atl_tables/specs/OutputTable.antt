@@ -61,7 +61,7 @@ unfoldable pub duplicate_key_at : List ℕ → List Output → ℕ → Output �
 duplicate_key_at at all i o =
     (if list_any (λ p. same_name p.item o.item) (take i all) then Some (TwoNames (path at o.item)) else None) ∷ []
 
--- the condition that a key of the output at a path names an item; else the fault UnknownName
+-- the condition that a key of the output at a path names an item, ignoring ASCII case; else the fault UnknownName
 unfoldable pub known_key_at : WorldDraft → List ℕ → ℕ → Output → Conditions
 known_key_at all at i o = name_is_known (path at o.item) (item_number all o.item) ∷ []
 

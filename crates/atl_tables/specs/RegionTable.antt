@@ -109,7 +109,8 @@ region_from at t = record { basics = basics_from at t; sides = sides_from at t; 
 unfoldable pub duplicate_market_items : ℕ → RegionDraft → Conditions
 duplicate_market_items i d = duplicate_items (element_path (codes "region") i) d.markets
 
--- the conditions on names in the i-th region: `terrain` names a terrain, each market's `item` an item; else UnknownName
+-- the conditions on names in the i-th region: `terrain` names a terrain, and each market's `item` an item, ignoring
+-- ASCII case; else UnknownName
 unfoldable pub region_known : WorldDraft → ℕ → RegionDraft → Conditions
 region_known all i d =
     name_is_known (path (element_path (codes "region") i) (codes "terrain")) (terrain_number all d.basics.terrain)

@@ -69,7 +69,7 @@ rules_conditions doc = fault_of (table_at (codes "rules") doc) ∷ conditions_of
 unfoldable pub rules_in : Members → RulesDraft
 rules_in doc = value_of rules_at (codes "rules") (rules_table doc)
 
--- the conditions that `observation`, `stealth` and `sailing` each name a skill or are missing; else UnknownName
+-- the conditions that `observation`, `stealth`, `sailing`, if there, name skills, ignoring ASCII case; else UnknownName
 unfoldable pub rules_known : WorldDraft → Conditions
 rules_known all =
     optional_name_is_known (path (codes "rules") (codes "observation")) (skill_number all) all.rules.skills.observation

@@ -1,4 +1,4 @@
--- For proofs alone: a set of names that were seen, each kept in ASCII lower case.
+-- For proofs alone: a set of names that were seen, each kept in ASCII lower case. Z is the allocator of their texts.
 use Rattle.std.specs.Prelude.{◌≡◌, ℕ, Bool, List, map}
 use Rattle.std.specs.BTreeSet.{BTreeSet, contains_text}
 use Rattle.std.specs.Char.{to_ascii_lowercase}

@@ -46,7 +46,7 @@ terrain_from = value_of terrain_at
 unfoldable pub duplicate_output_keys : ℕ → TerrainDraft → Conditions
 duplicate_output_keys i d = conditions_on_each (duplicate_key_at (output_path (element_path (codes "terrain") i)) d.output) 0 d.output
 
--- the conditions that each key of the i-th terrain's output names an item; else the fault UnknownName
+-- the conditions that each key of the i-th terrain's output names an item, ignoring ASCII case; else UnknownName
 unfoldable pub terrain_known : WorldDraft → ℕ → TerrainDraft → Conditions
 terrain_known all i d = conditions_on_each (known_key_at all (output_path (element_path (codes "terrain") i))) 0 d.output
 

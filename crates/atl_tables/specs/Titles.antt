@@ -1,4 +1,4 @@
--- Names that must be unique, and the numbers of an array's elements by name. See docs/FORMATS.md, "The world file".
+-- Unique names, and numbers (indices, from 0) of an array's elements by name. See docs/FORMATS.md, "The world file".
 use Rattle.std.specs.Prelude.{ℕ, List, [], ◌∷◌, take, Option, Some, None, if◌then◌else◌}
 use Rattle.std.specs.List.{list_any, position_from}
 use Rattle.atl_tables.specs.declared.fault.WorldFault.{WorldFault}

@@ -111,7 +111,7 @@ names_differ all =
     ++ conditions_on_each duplicate_market_items 0 all.regions))
 
 -- the conditions that each name by which a table refers to a terrain, an item or a skill is the name of one, and `raw`
--- that of another item; else UnknownName
+-- that of another item, ignoring ASCII case; else UnknownName
 unfoldable pub names_are_known : WorldDraft → Conditions
 names_are_known all =
     rules_known all

@@ -128,8 +128,8 @@ fn other_item(items: &[ItemDraft], i: usize, name: &Text) -> Option<u16>
     }
 }
 
-/// The number of the i-th item's raw item, by its `name`; `None` without a name. The fault is
-/// UnknownName if no item has the name, or the first that has it is the i-th itself.
+/// The number of the i-th item's raw item, by its `name`, ignoring ASCII case; `None` without one.
+/// The fault is UnknownName if no item has the name, or the first that has it is the i-th itself.
 fn raw_item(
     alloc: Global,
     items: &[ItemDraft],

@@ -17,7 +17,7 @@ use atl_world::Direction::{self, East, North, South, West};
 use atl_world::{Numbered, RegionPlan};
 use std::alloc::Global;
 
-/// The number of the neighbour of region `number` on a side; None without one, or such a region.
+/// The number of the neighbour of region `number` on a side; None if it has none or isn't there.
 fn region_next_to(regions: &Numbered<RegionPlan>, number: u32, side: Direction) -> Option<u32>
     ensures { result ≡ option_and_then (neighbour_to side) (get regions.now number) }
 {

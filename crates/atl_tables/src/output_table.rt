@@ -94,8 +94,8 @@ pub(crate) fn no_duplicate_keys(
     Ok(())
 }
 
-/// Checks that each key of the output at a path names an item, else gives the fault UnknownName at
-/// the first that doesn't.
+/// Checks that each key of the output at a path names an item, ignoring ASCII case, else gives the
+/// fault UnknownName at the first that doesn't.
 pub(crate) fn keys_name_items(
     alloc: Global,
     all: &WorldDraft,

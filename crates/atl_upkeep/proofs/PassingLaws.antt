@@ -39,8 +39,6 @@ use Rattle.atl_instant.proofs.QuitLaws.{held_in_items, amount_as_thing}
 use Rattle.atl_upkeep.specs.Sweep.{IsKept, after_passing_item, after_passing_money, with_lost}
 use Rattle.std.proofs.lemmas.Bool.{cases_eq}
 
--- ---- more than is booked
-
 -- the total of a thing in the campaign is by this amount more than its books account for
 abbrev pub Owes : CampaignValue → Thing → ℕ → Type 0
 Owes c s more = pos (total c s) ≡ booked c.books s +ℤ pos more
@@ -114,8 +112,7 @@ total_above_books : (b : Bool) (taken lost x before after : ℕ) (books : ℤ) �
     → pos after ≡ (books +ℤ cond b (neg_ℤ (pos lost)) (pos 0)) +ℤ pos (x + cond b (taken + lost) 0)
 total_above_books b taken lost x before after books e h = grind (arith, ints, e, h)
 
--- If `lost` of a thing is booked as lost, its total is above the books by `lost` more than before. The total of any
--- other thing is above the books by as much as before. Test `b` says whether a thing is the one.
+-- the same if nothing of it is given to a unit: the total is above the books by `lost` more than before
 owed_all : (b : Bool) (lost x all : ℕ) (books : ℤ) → pos all ≡ books +ℤ pos x
     → pos all ≡ (books +ℤ cond b (neg_ℤ (pos lost)) (pos 0)) +ℤ pos (x + cond b lost 0)
 owed_all b lost x all books h = grind (arith, ints, h)
@@ -184,8 +181,6 @@ module _ (w : WorldValue) (c : CampaignValue) (n : ℕ) (t : Thing) (inside : th
           | inr other ↦ (u, get-insert_other c.units k m (record v { holding = h }) other ∙ there, kept-refl u)
         ]
 
--- ---- a holding with more of an item
-
 more_amount : (items : FinMap nat_cmp ℕ) (i n j : ℕ)
     → amount_of (with_amount_of items i (amount_of items i + n)) j ≡ amount_of items j + cond (2 + j == 2 + i) n 0
 more_amount items i n j = elim (cases_eq j i) [
@@ -217,8 +212,7 @@ module _ (w : WorldValue) (c : CampaignValue) (n k : ℕ) (apart : n ≢ k) (ste
   more_money h n People = grind (arith, nat_tests)
   more_money h n (Item i) = grind (arith, nat_tests)
 
-  -- If booking all of an amount as lost is passing it on (`Passed`), so is booking the amount less the 0 that unit `k`
-  -- takes.
+  -- if booking all of an amount as lost is passing it on (`Passed`), so is booking it less the 0 that unit `k` takes
   all_left : (t : Thing) (amount : ℕ) → Passed t amount (with_lost c t amount)
       → Passed t amount (with_lost c t (amount - min amount 0))
   all_left t amount lost = let same : amount ≡ amount - min amount 0 = omega arith in subst (λ a. Passed t amount (with_lost c t a)) same lost

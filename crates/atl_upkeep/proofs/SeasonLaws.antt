@@ -41,8 +41,6 @@ use Rattle.atl_upkeep.specs.Season.{births, grows_by, income, season, season_at,
 use Rattle.atl_upkeep.proofs.RestockLaws.{restocked_keeps, restocked_leaves_well}
 use Rattle.std.proofs.lemmas.Slice.Zip.{length-zip}
 
--- ---- births and income
-
 -- peasants and births together are at most 999,999,999, if `limit` and the peasants are
 pub births_fit : (growth limit word peasants : ℕ) → limit ≤ most_amount → peasants ≤ most_amount
     → peasants + births growth limit word peasants ≤ most_amount
@@ -156,8 +154,6 @@ growth_marks c d e f g n peasants money born earned d_is d_marks e_is e_marks f_
     let treasure = marks_by d e _ e_is e_marks (marks-region-money d n money) in
     booked_marks c f g Income Money (pos earned) (booked_marks c e f Births People (pos born) (marks-trans c d e people treasure) f_is f_marks) g_is g_marks
 
--- ---- the terrains of a world
-
 terrain_in : (w : WorldValue) (o : Option RegionPlan) (t : Terrain) → IsWorld w
     → option_and_then (λ (p : RegionPlan). slice_get w.terrains p.terrain) o ≡ Some t
     → (t.peasant_limit ≤ most_amount) × (t.money_limit ≤ most_amount)
@@ -210,7 +206,8 @@ season_at_leaves_well w world c (n, word) steady = by_terrain (terrain_of w n) r
     by_terrain None is = same
     by_terrain (Some t) is = by_region t is (get c.regions n) refl
 
--- the seasons of `k` regions, at most 10,000, move only Births, Income and Stocked, each by less than 10^14
+-- `k` moves, at most 10,000, each of Births, Income and Stocked alone and by at most 999,999,999, are within the bound
+-- of a month's seasons
 pub season_little : (k : ℕ) → k ≤ most_regions → (e : BooksEntry) (t : Thing)
     → moved_times k (season_moves most_amount) e t ≤ season_moves most_moved e t
 season_little k few e t = grind (arith, few)

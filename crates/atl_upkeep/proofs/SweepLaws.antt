@@ -57,8 +57,6 @@ all_owed h none (Item j) =
     let items : held_in_items (entries h.items) (Item j) ≡ amount_of h.items j = list_amount_is_found j (entries h.items) (sorted h.items) ∙ ap (λ (o : Option ℕ). unwrap_or o 0) (sym (get-entries h.items j)) in
     grind (arith, nat_tests)
 
--- ---- how far it moves the books
-
 -- a unit without men whose money and items are within their limits has of each thing at most what sweeping one unit may
 -- book as lost (`loses_by`)
 little_lost : (h : HoldingValue) → h.men ≡ 0 → h.money ≤ holding_limit → ((i : ℕ) → amount_of h.items i ≤ holding_limit)
@@ -126,7 +124,7 @@ module _ (w : WorldValue) (c : CampaignValue) (n : ℕ) (u : Unit) (is : get c.u
       total_without_n : (a h b o : ℕ) (z : ℤ) → a + h ≡ b → o ≡ h → pos b ≡ z +ℤ pos (0 + o) → pos a ≡ z
       total_without_n a h b o z e f g = omega (arith, ints, e, f, g)
 
-  -- passing on all that unit `n` holds books at most 999,999,999 of money and of each item as lost
+  -- passing on all that unit `n` holds books at most 999,999,999 of money and of each item as lost, nothing else
   pub moves_little : (e : BooksEntry) (s : Thing) → moving_all u.holding e s ≤ loses_by most_amount e s
   moves_little e s =
       within (moves_only u.holding.men Left People e s) (moving_all u.holding e s) (loss_under e s u.holding) (loses_by most_amount e s) (moves_what_leaves u.holding e s)
@@ -169,8 +167,6 @@ module _ (w : WorldValue) (c : CampaignValue) (n : ℕ) (u : Unit) (is : get c.u
       let only = only_reduced w passed n u there_still in
       let (apart, here) = still passed.units n m v (sym (ap (λ (units : FinMap nat_cmp Unit). get units m) only.units) ∙ there) in
       (apart, passing.back m v here)
-
--- ---- an item that is passed on
 
 -- if unit `to` is there as `v`, adding what it accepts of an item to what it has, and booking the rest as lost, is
 -- passing the item on (`after_passing_item`)

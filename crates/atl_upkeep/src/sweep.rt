@@ -105,8 +105,8 @@ fn pass_items(
     Ok(())
 }
 
-/// Removes a unit without men, after it passed on what it has. For any other number it does
-/// nothing.
+/// Removes a unit without men, after its receiver got what it has, up to the receiver's room; the
+/// rest is booked as lost. For any other number it does nothing.
 #[tactic(auto, unfolding(crate::specs::Sweep::after_sweeping_unit))]
 fn sweep_unit(
     alloc: Global,

@@ -77,8 +77,8 @@ fn starve(
     set_people(campaign, upkeep_result.unit, left, &days)
 }
 
-/// Takes the money paid, and the men who starve, from the unit; books nothing, and marks no items,
-/// nor days where nobody starves.
+/// Takes from the unit the money paid, and the men who starve with their part of the days; books
+/// nothing, and marks no items, nor days where nobody starves.
 fn take_upkeep(
     alloc: Global,
     campaign: &mut Campaign,

@@ -12,8 +12,7 @@ use Rattle.std.proofs.lemmas.Bool.Decides.{nat_tests}
 use Rattle.atl_words.specs.Letters.{carriage_return}
 use Rattle.atl_words.specs.TextLines.{is_feed, with_front, pieces, without_return, lines}
 
--- A text b ∷ bs with a line feed is split at its first one, if bs, where it has one, is split at its own first. t is
--- whether b is a line feed, and m is the index of the first one in bs, or their length.
+-- for `pieces-feed`: t says whether b is a line feed, and m is the index of the first one in bs, or their length
 feed_step : (t : Bool) (b : ℕ) (bs : List ℕ) (m : ℕ) → cond (not t) (1 + m) 0 < suc (length bs)
     → (m < length bs → pieces bs ≡ take m bs ∷ pieces (drop (m + 1) bs))
     → cond t ([] ∷ pieces bs) (with_front b (pieces bs))
@@ -42,15 +41,18 @@ unfolding pieces
 pieces-last [] h = refl
 pieces-last (b ∷ bs) h = last_step (is_feed b) b bs (position_or_len is_feed bs) h (pieces-last bs)
 
+-- the lines of a text with a line feed: what is before the first one (`without_return`), then those of what follows it
 pub lines_feed : (text : List ℕ) (end : ℕ) → position is_feed text ≡ Some end
     → lines text ≡ without_return (take end text) ∷ lines (drop (end + 1) text)
 lines_feed text end h =
     let found : position_or_len is_feed text ≡ end = grind (arith, nat_tests) in
     rw (← found) (ap (map without_return) (pieces-feed text (grind (arith, nat_tests))))
 
+-- a text without a line feed is one line, without the carriage return at its end, if it has one
 pub lines_last : (text : List ℕ) → position is_feed text ≡ None → lines text ≡ without_return text ∷ []
 lines_last text h = ap (map without_return) (pieces-last text (grind (arith, nat_tests)))
 
+-- a line of n + 1 bytes, the last of them a carriage return, is without it the line's first n bytes
 pub return_cut : (line : List ℕ) (n : ℕ) → length line ≡ n + 1 → get_or line n 0 ≡ carriage_return
     → without_return line ≡ take n line
 return_cut [] n e h = absurd (omega arith)
@@ -65,6 +67,7 @@ line_kept_by_length [] h = refl
 line_kept_by_length (b ∷ []) h = ap (λ t. cond t [] (b ∷ [])) (ne_eqb b carriage_return (h 0 (omega arith)))
 line_kept_by_length (b ∷ c ∷ bs) h = ap (λ l. b ∷ l) (line_kept_by_length (c ∷ bs) (λ n e. h (suc n) (omega arith)))
 
+-- a line that is empty, or doesn't end with a carriage return, stays as it is (`without_return`)
 pub line_without_return_kept : (line : List ℕ) → (0 < length line → get_or line (length line - 1) 0 ≢ carriage_return)
     → without_return line ≡ line
 line_without_return_kept line h =
@@ -92,6 +95,7 @@ line_ends_at text left line e s =
 pub starts_shorter : (text front : List ℕ) → StartsWith text front → length front ≤ length text
 starts_shorter text front s = omega (arith, ap length s.whole, length-append front s.back)
 
+-- if a text ends with `left`, and `left` with what follows a line feed, where there is one, so does the text
 pub rest_further : (text left : List ℕ) (rest : Option (List ℕ)) → EndsWith text left → IfSome rest (EndsWith left)
     → IfSome rest (EndsWith text)
 rest_further text left None e r = tt

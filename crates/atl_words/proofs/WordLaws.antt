@@ -1,7 +1,8 @@
 -- Laws of the words of a line, by its first byte, and of the index of a word in the text. b is the first byte of a line
 -- and bs are those after it. `bytes` are those of a word, `to_end` is how many bytes the line has from the word's first
 -- byte on, and `end` is the index of the text at which the line ends. i is an index of a line, n a number of its bytes,
--- and `mid` and `rest` are what a line ends with.
+-- and `mid` and `rest` are what a line ends with. `position_or_len p xs` is the index of the first element of the list
+-- xs that passes the test p, or else the length of xs.
 use Rattle.std.proofs.Common.{◌≡◌, ℕ, zero, suc, ◌+◌, ◌*◌, ◌-◌, ◌<◌, ◌≤◌, Bool, ◌||◌, not, true, false, cond, eqb, List, [], ◌∷◌, ◌++◌, length, get_or, take, drop, min, Some, None, nat_lt, refl, sym, ap, ◌∙◌, arith}
 use Rattle.std.specs.List.{slice_range, position, position_or_len, before_first}
 use Rattle.std.specs.Option.{unwrap_or}
@@ -126,11 +127,13 @@ pub ends_further : (line mid rest : List ℕ) → EndsWith line mid → EndsWith
 ends_further line mid rest a b =
     record { front = a.front ++ b.front; whole = a.whole ∙ ap (λ l. a.front ++ l) b.whole ∙ sym (append_assoc a.front b.front rest) }
 
+-- where a line ends with `mid`, a part of `mid` is a part of the line, with as many bytes to the end
 pub part_further : (line mid bytes : List ℕ) (to_end : ℕ) → EndsWith line mid → IsPartOf mid bytes to_end
     → IsPartOf line bytes to_end
 part_further line mid bytes to_end a b =
     record { front = a.front ++ b.front; back = b.back; whole = a.whole ∙ ap (λ l. a.front ++ l) b.whole ∙ sym (append_assoc a.front b.front (bytes ++ b.back)); to_end_is = b.to_end_is }
 
+-- a line ends with the bytes after its first n, which are as many as its length less n
 pub ends_at : (line : List ℕ) (n : ℕ) → EndsWith line (take (length line - n) (drop n line))
 ends_at line n = rw (take_rest line n) (ends_after line n)
 

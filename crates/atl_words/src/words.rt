@@ -55,7 +55,8 @@ fn first_end(bytes: &[u8]) -> Option<usize>
     bytes.iter().position(|byte| ends_word(*byte))
 }
 
-/// `after` is what follows the opening quote. Without a closing one the word ends with the line.
+/// The word with which `after` begins, the rest of a line after an opening quote, and what comes
+/// after the closing quote. Without a closing one the word ends with the line.
 #[tactic(auto, using(crate::proofs::WordLaws::found_or_len, crate::proofs::WordLaws::found_within))]
 fn quoted_word(after: &[u8]) -> (Word<'_>, &[u8])
     ensures words { words (quote ∷ after.now) ≡ word_text result.0 ∷ words result.1.now }
@@ -73,7 +74,7 @@ fn quoted_word(after: &[u8]) -> (Word<'_>, &[u8])
     (word, &rest[closing..])
 }
 
-/// The word without quotes that a line begins with, and what follows it.
+/// The word without quotes with which the line has to begin, and what follows it.
 #[tactic(auto, using(crate::proofs::WordLaws::found_or_len, crate::proofs::WordLaws::found_within))]
 fn bare_word(line: &[u8]) -> (Word<'_>, &[u8])
     requires some { 0 < length line.now }

@@ -169,7 +169,7 @@ module _ {V : Type 0} where
         subst (λ (ns : List ℕ). i < length ns → Passing (e ∷ es) (get_or ns i d)) (sym (chosen-cons p e es))
         (listed_in (p e.1) e es refl s d (listed es (and_parts _ _ s).1 d) i) h
 
-    -- the i-th of the numbers that `numbers_where` gives has a value in the map, which passes the test p
+    -- the number at an index i of the list that `numbers_where` gives has a value in the map, which passes the test p
     pub passes-listed : (m : FinMap nat_cmp V) (i d : ℕ) → i < length (numbers_where p m)
         → (v : V) × (get m (get_or (numbers_where p m) i d) ≡ Some v) × (p v ≡ true)
     passes-listed m i d h = let (v, is, t) = listed (entries m) (sorted m) d i h in (v, get-entries m (get_or (numbers_where p m) i d) ∙ is, t)
@@ -193,8 +193,6 @@ module _ {V W : Type 0} (f : V → W) where
 
       forth : HasValue m n → HasValue (map_values f m) n
       forth (v, is) = (f v, get-mapped f m n ∙ ap (option_map f) is)
-
--- ---- numbers compared
 
 pub same_number : (a : ℕ) → (a == a) ≡ true
 same_number a = grind (arith, nat_tests)

@@ -77,6 +77,6 @@ last_level = 5
 abbrev pub most_raw_count : ℕ
 most_raw_count = 1000
 
--- the largest size of a structure, in material, and the largest crew of a ship, in men times levels of sailing
+-- the largest size of a structure, in material, and the most crew that a ship may need, in men times levels of sailing
 abbrev pub most_size : ℕ
 most_size = 999999

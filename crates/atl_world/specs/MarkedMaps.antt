@@ -8,7 +8,7 @@ use Rattle.std.specs.FinSet as set
 -- a map with marks: its values by number, and the set of the marked numbers
 pub record MarkedMapValue (V : Type 0) : Type 0 where
   pub values : FinMap nat_cmp V
-  -- the marked numbers: those whose values changed since the marks were cleared
+  -- the marked numbers: those whose values may have changed since the marks were cleared
   pub marks : set.FinSet nat_cmp
 
 -- for proofs alone: a map with marks encoded as the pair of its values and its marks, where v encodes one value

@@ -182,7 +182,6 @@ module _ (c : MarkedCampaign) (e : BooksEntry) (t : Thing) where
       ap (λ k. books_key k thing) (next index (entry_index e) (same_key index (entry_index e) one.0))
       ∙ ap (books_key (entry_index e + 1)) (same_key thing (thing_index t) two.0)
     where
-      -- for `key_of`: if `a` is `b`, the successor of `a` is `b + 1`; a row of `books` has an entry's index plus 1
       next : (a b : ℕ) → a ≡ b → suc a ≡ b + 1
       next a b same = omega (arith, same)
   key_of row is = absurd (true≢false (sym is))

@@ -79,16 +79,12 @@ module _ (c : CampaignValue) where
       one_changed (Fills c own) Books _ old new did
       (λ made none. books_filled c are (rows_in books_table new.trees) (rows_in books_table old.trees) none made)
 
-  -- ---- one after the other
-
   -- filling some parts, the campaign row among them, and then others fills all of them, if no part is in both lists
   pub own_then_filled : (text : List ℕ) (ps qs : List Part) → are_apart ps qs ≡ true → (old mid new : Database)
       → FillsWithOwn text c ps old mid → FillsParts c qs mid new → FillsWithOwn text c (ps ++ qs) old new
   own_then_filled text ps qs apart old mid new first second none =
       both_changed (Fills c (row_of_campaign text c)) ps qs apart old mid new (first none)
       (second (row_of_campaign text c))
-
-  -- ---- the whole
 
   -- making the ten empty tables where there is no table (`IsBlank`), and then filling all parts, writes the founding
   pub founding_done : (text : List ℕ) (parts : List Part) → list_all (is_among parts) all_parts ≡ true

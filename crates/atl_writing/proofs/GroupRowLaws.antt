@@ -1,6 +1,6 @@
 -- Laws on tables whose rows belong to a numbered unit or region: filling them, and rewriting the rows of one number.
--- The wanted rows (`Wanted`) are those of all units, or of all regions, which are `values` by number. `lines` gives the
--- rows of a number and its value, and the key of a row is its first `more + 1` columns.
+-- The wanted rows (`Wanted`) are those that `lines` gives for all units, or all regions, which are `values` by number;
+-- they come in groups, one for each number (`AreGroups`). The key of a row is its first `more + 1` columns.
 -- `old` is the state, or the list of the table's rows, before a write, and `new` or `rows` after it; `mid` is the state
 -- after rows are deleted and before others are put. Each step is in a database with the ten tables.
 use Rattle.std.proofs.Common.{◌≡◌, ◌≢◌, ◌⊎◌, ◌↔◌, ℕ, suc, true, List, [], ◌∷◌, take, Some, None, refl, sym, ap, ◌∙◌, subst, inl, inr}

@@ -35,8 +35,6 @@ key_one Books is = absurd is
 key_one Markets is = absurd is
 key_one part is = refl
 
--- ---- chosen rows of two equivalent sets
-
 chosen_as : (b : Bool) (P Q W : Type 0) → (P ↔ Q) → IfElse b P W ↔ IfElse b Q W
 chosen_as true P Q W same = same
 chosen_as false P Q W same = (λ h. h, λ h. h)

@@ -26,8 +26,6 @@ use Rattle.atl_writing.specs.GroupedRows.{DifferInKey, amount_lines, entries_lin
 use Rattle.atl_writing.proofs.EntryLaws.{apart_append, empty_table_has_put_rows, flat_has, has_flat}
 use Rattle.atl_writing.proofs.HasTableLaws.{optional_has, has_optional, optional_apart}
 
--- ---- entries by their indexes
-
 has_at : {X : Type 0} (xs : List X) (k : ℕ) (x : X) → slice_get xs k ≡ Some x → Has xs x
 has_at [] k x is = absurd (none-some x is)
 has_at (y ∷ ys) zero x is = inl (sym (same_Some y x is))

@@ -85,8 +85,6 @@ module _ (c : MarkedCampaign) where
       → RewritesWithOwn c ps old mid → RewritesParts c qs mid new → RewritesWithOwn c (ps ++ qs) old new
   own_then_rewritten ps qs apart old mid new first second before text was = let own = own_after c before text in both_changed (Becomes c own) ps qs apart old mid new (first before text was) (second own)
 
-  -- ---- the whole
-
   -- once all parts are rewritten, all that is marked is written (`WritesChanges`)
   pub all_rewritten : (parts : List Part) → list_all (is_among parts) all_parts ≡ true → (old new : Database)
       → RewritesWithOwn c parts old new → WritesChanges c old new

@@ -123,8 +123,6 @@ module _ (table : Table) (Wanted : Set) where
       → DoesInside HasTables (Rewrites table step Wanted) s s
   none_chosen step none s = all_rewritten step step step none (λ r. refl) s s (all_remaining step step (λ r. refl) s)
 
--- ---- numbers
-
 -- ---- a row that begins with a number
 
 begins_either : (f g : ℕ → Bool) (r : Row)

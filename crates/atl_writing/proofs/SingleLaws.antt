@@ -1,7 +1,7 @@
 -- Laws on writing single marked amounts, of items, skills or stocks: writing each of them writes all of them.
 -- `old` is the state before the first of them, `mid` before the one that a law is on, and `new` after it.
--- An owner is a unit or a region, and `finds` chooses rows of the table by a test of the numbers of owner and thing.
--- `Wanted` are the rows that the table has to have. Each step is in a database with the ten tables.
+-- An owner is a unit or a region. `finds` chooses rows of the table by a test of the numbers of owner and thing
+-- (`FindsByNumbers`). `Wanted` are the rows that the table has to have. Each step is in a database with the ten tables.
 -- `now` are the things, or the owners, left to write at `mid`, `rest` those at `new`, and `all` those at `old`.
 use Rattle.std.proofs.Common.{◌≡◌, ◌&&◌, ◌||◌, ℕ, Bool, true, false, cond, List, [], ◌∷◌, map, is_some, unwrap_or, Some, Less, Equal, Greater, refl, sym, ap, ◌∙◌, inl, inr, true≢false}
 use Rattle.std.specs.List.{list_any}

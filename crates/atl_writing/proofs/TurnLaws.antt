@@ -13,8 +13,6 @@ use Rattle.atl_descriptions.specs.Tables.{Part, table_of}
 use Rattle.atl_sql.specs.Inside.{Alters, Changes, InTurn}
 use Rattle.atl_sql.proofs.PartLaws.{tree_of, same_part, listed, are_apart, not_both}
 
--- ---- rows that stay
-
 -- a table whose tree is as it was has the rows that it had
 pub same_rows : (t : Table) (a b : Database) → b.trees t.tree ≡ a.trees t.tree → rows_in t b.trees ≡ rows_in t a.trees
 same_rows t a b same = ap (map (visible_row t)) same

@@ -74,7 +74,7 @@ all_goods_lines units = groups_of unit_goods_lines units
 abbrev pub region_stock_lines : ℕ → Region → List Row
 region_stock_lines n region = amount_rows (market_row n) (entries region.stocks)
 
--- the rows of `market` for all stocks that aren't 0, one region after another
+-- the rows of `market` for all stocks of the listed regions that aren't 0, one region after another
 abbrev pub all_stocks_lines : List (ℕ × Region) → List Row
 all_stocks_lines regions = groups_of region_stock_lines regions
 

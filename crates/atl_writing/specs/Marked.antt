@@ -19,8 +19,8 @@ abbrev pub first_column_passes : (ℕ → Bool) → Row → Bool
 first_column_passes is_so (Int (pos n) ∷ row) = is_so n
 first_column_passes is_so row = false
 
--- Whether the test `is_so`, the first argument, is true of the entry and the thing of a row of `books`. The entry is
--- given by its index, the first column (from 1) less 1; the thing by its number, the second column.
+-- Whether the test `is_so`, the first argument, is true of the entry and the thing of a row of `books`: the entry's
+-- index, the first column less 1, and the thing's number, the second column. It is false if the first column is 0.
 abbrev pub entry_and_thing_pass : (ℕ → ℕ → Bool) → Row → Bool
 entry_and_thing_pass is_so (Int (pos (suc entry)) ∷ Int (pos thing) ∷ row) = is_so entry thing
 entry_and_thing_pass is_so row = false
@@ -53,8 +53,8 @@ goods_marked marks r =
 abbrev pub stocks_marked : Marks → Row → Bool
 stocks_marked marks r = begins_marked marks.stocks r || region_and_item_pass (has_thing marks.stock_items) r
 
--- Whether the amount of an entry and a thing in the books is marked: whether its number is in `marks`. Both are given
--- by their indexes; that of the entry has to be below `entry_count`.
+-- Whether the amount of an entry and a thing, given by their indexes, is marked: whether `marks` has its number, which
+-- is `entry_count` times the index of the thing plus that of the entry. False if the latter is not below `entry_count`.
 abbrev pub is_marked_amount : FinSet nat_cmp → ℕ → ℕ → Bool
 is_marked_amount marks entry thing = nat_le (suc entry) entry_count && contains marks (entry_count * thing + entry)
 

@@ -24,7 +24,7 @@ pub record AddsMarkets (old new : Database) : Type 0 where
   pub empty : new.trees market_table.tree ≡ []
   pub others : (table : Table) → Has (map table_of (parts_in First)) table → new.trees table.tree ≡ old.trees table.tree
 
--- If the tables held a campaign without stocks in the first format, whatever its text, they hold it in the second, with
--- this text. This is what the transaction of an upgrade does.
+-- If the tables held this campaign, without stocks, in the first format, whatever the world text, they hold it in the
+-- second, with this text. This is what the transaction of an upgrade does.
 abbrev pub WritesUpgrade : List ℕ → CampaignValue → Database → Database → Type 0
 WritesUpgrade text c old new = (before : List ℕ) → HoldsIn First old.trees before c → HasNoStocks c → Holds new.trees text c

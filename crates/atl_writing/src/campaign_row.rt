@@ -19,6 +19,7 @@ use atl_sql::rows::campaign::{CampaignRow, put_campaign, put_upgraded};
 use atl_world::Format;
 use sqlite::{Alter, Error, Transaction};
 
+/// What the campaign row of the campaign says, but for its id, its format and its world text.
 fn own_row(campaign: &Campaign) -> CampaignRow<'_>
     ensures { head_shown result ≡ campaign_row_of campaign.now.value }
 {

@@ -11,7 +11,8 @@ use crate::write_parts::{OtherParts, WrittenPart};
 use atl_campaign::Campaign;
 use sqlite::{Alter, Connection, Error, Transaction};
 
-/// Writes all that is marked, if the table `campaign` has one row, of the second format. The books
+/// Writes all that is marked, if the table `campaign` has one row, of the second format. It is a
+/// step of a transaction on the ten tables and a clean disk; an error is the database's. The books
 /// may have no more things than a world can have.
 fn rewrite_parts<S: Alter>(tx: &mut Transaction<'_, S>, campaign: &Campaign) -> Result<(), Error>
     requires { campaign.now.value.books.things ≤ most_things }

@@ -12,9 +12,9 @@ use atl_campaign::Campaign;
 use atl_sql::tables::create_tables;
 use sqlite::{Alter, Connection, Error, Transaction};
 
-/// On a clean disk: makes the ten tables and writes the world text and all rows of the campaign, if
-/// the database has no table, index, view or trigger; Err has the error of a statement. The books
-/// may have no more things than a world can have.
+/// Makes the ten tables and writes the world text and all rows of the campaign, if the database has
+/// no table, index, view or trigger: a step of a transaction on a clean disk; an error is the
+/// database's. The books may have no more things than a world can have.
 fn put_founding<S: Alter>(
     tx: &mut Transaction<'_, S>,
     text: &str,
@@ -31,9 +31,9 @@ fn put_founding<S: Alter>(
 }
 
 /// Makes the ten tables and writes all rows of a campaign, with the world text `text`, in one
-/// transaction. `conn` has to be in no transaction, and its database without table, index and view.
-/// The books may have no more things than a world can have. After an error the tables are as at the
-/// last commit, if the connection is still open. All this is promised on a clean disk
+/// transaction. `conn` has to be in no transaction, and its database without table, index, view and
+/// trigger. The books may have no more things than a world can have. After an error the tables are
+/// as at the last commit, if the connection is still open. All this is promised on a clean disk
 /// (docs/PROVED.md, "Premises").
 pub fn write_founding<S: Alter>(
     conn: &mut Connection<S>,

@@ -21,6 +21,7 @@ use atl_sql::rows::{put, take_out};
 use atl_world::{Entries, MarkedNumbers, Numbered};
 use sqlite::{Alter, Error, Transaction, params};
 
+/// Puts the row of a stock, also of 0.
 fn put_stock<S: Alter>(
     tx: &mut Transaction<'_, S>,
     region: u32,

@@ -11,6 +11,7 @@ use crate::numbered_rows::NumberedRow;
 use atl_campaign::Campaign;
 use sqlite::{Alter, Error, Transaction};
 
+/// Puts the number's row, or deletes it if nothing has the number; marks aren't looked at.
 fn rewrite<V: NumberedRow + Drop, S: Alter>(
     tx: &mut Transaction<'_, S>,
     campaign: &Campaign,

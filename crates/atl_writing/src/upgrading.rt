@@ -10,7 +10,9 @@ use atl_campaign::Campaign;
 use atl_sql::tables::create_market;
 use sqlite::{Alter, Connection, Error, Transaction};
 
-/// Upgrades a database of the first format, if its tables hold `campaign`, which has no stocks.
+/// Makes the table `market` and gives the campaign row the second format and the world text `text`,
+/// if the database is of the first format and its tables hold `campaign`, without stocks. It is a
+/// step of a transaction on a clean disk; an error is the database's.
 fn put_upgrade<S: Alter>(
     tx: &mut Transaction<'_, S>,
     text: &str,

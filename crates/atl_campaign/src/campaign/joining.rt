@@ -126,9 +126,9 @@ impl Campaign {
     /// and the name and the pass text have to keep their rules. The unit is one man with the start
     /// money, in the land region that the word of the dice picks. What the unit brings is booked,
     /// and what changed is marked. The campaign is sound then: good, but that the new faction lacks
-    /// its report. NameTaken if a faction, gone or not, joined under this name. Full if there are
-    /// 9,999 factions or 100,000 units, or no unit number is left. Memory without memory. After
-    /// each of these the campaign and its marks stay as they are. See docs/RULES.md, "Joining".
+    /// its report. NameTaken if a faction, gone or not, joined under this name; else Full if there
+    /// are 9,999 factions or 100,000 units, or no unit number is left; else Memory without memory.
+    /// After each the campaign and its marks stay as they are. See docs/RULES.md, "Joining".
     #[tactic(auto, unfolding(crate::specs::Joining::join_of))]
     pub fn join(
         &mut self,

@@ -1,4 +1,4 @@
-//! Rule 1: there is one campaign row of a given format, and no rows unknown to that format.
+//! Rule 1: there is one campaign row, of id 1 and a given format, and in the first no `market` row.
 ghost use Rattle.std.specs.Prelude.{◌≡◌};
 ghost use Rattle.atl_campaign.specs.RowRules.{is_one_campaign_row, are_of_format};
 

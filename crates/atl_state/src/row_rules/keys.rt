@@ -1,5 +1,5 @@
-//! The part of rule 2 that no two rows of a table have the same key. AllocError says that there was
-//! no memory for the keys.
+//! The part of rule 2 that no two rows of a table but `campaign` have the same key. AllocError says
+//! that there was no memory for the keys.
 ghost use Rattle.std.specs.Prelude.{◌≡◌, IfOk, map, ◌↔◌, IsTrue};
 ghost use Rattle.std.specs.List.{IsDistinct};
 ghost use Rattle.std.specs.List.Sorted.{IsPermutation, IsSorted, IsStrictlySortedBy};

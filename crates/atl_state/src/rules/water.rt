@@ -1,4 +1,5 @@
-//! Rule 9: units on water are inside ships, and structures on water are complete ships.
+//! Rule 9: units on water are inside ships, and structures on water are complete ships. A region
+//! that the world doesn't have counts as water.
 ghost use Rattle.std.specs.Prelude.{◌≡◌, false, true, ◌↔◌, IsTrue};
 ghost use Rattle.atl_world.specs.Every.{Every};
 ghost use Rattle.atl_campaign.specs.Good.{AreAfloat, IsAboard, is_ship};

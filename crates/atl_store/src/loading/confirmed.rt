@@ -10,10 +10,11 @@ use atl_sql::schema::has_tables_of;
 use atl_world::Format;
 use sqlite::{Alter, Connection};
 
-/// On a clean disk Ok says that the schema begins with the tables of the format, and the connection
-/// is open. A disk that failed as a read was rolled back has shut it, which only a statement shows,
-/// so the short table of the books is read. The fault is Store for another schema, or that of this
-/// SELECT's refusal. Before, `conn` is in no transaction and all is committed; the tables stay.
+/// Ok says that the schema begins with the tables of the format, the trees list and obey it, and
+/// the connection is open. A disk that failed as a read was rolled back has shut it, which only a
+/// statement shows, so the short table of the books is read. The fault is Store for another schema,
+/// or that of this SELECT's refusal. All this, and that the tables stay while the connection is
+/// open, is promised on a clean disk. Before, `conn` is in no transaction and all is committed.
 pub(crate) fn confirm<S: Alter>(conn: &mut Connection<S>, format: Format) -> Result<(), LoadFault>
     requires idle { conn.old.in_transaction ≡ false }
     requires settled { IsCommitted (state S.Store conn.old) }

@@ -39,7 +39,7 @@ fn only_row(mut rows: Vec<StoredCampaign>) -> Option<StoredCampaign>
     if rows.is_empty() { last } else { None }
 }
 
-/// Reads the text as a world of the format; one of the first format has no markets.
+/// The world of a text in the format, of which the first has no markets; or its fault, or Memory.
 fn world_by(alloc: Global, text: &str, format: Format) -> Result<World, WorldFault>
     ensures { Reads (λ w. w) result (world_of_text format text.now) }
 {
@@ -129,7 +129,7 @@ fn judge_format(
 
 /// Reads the one campaign row, which has to keep the first rule, and its world. That the row is of
 /// the other format is tested before the types of its values. All is committed before, `conn` is in
-/// no transaction, and what is read is promised on a clean disk.
+/// no transaction, and what is read, or the fault, is promised on a clean disk.
 pub(crate) fn read_own<S: Alter>(
     alloc: Global,
     conn: &mut Connection<S>,
