@@ -31,7 +31,7 @@ use Rattle.atl_campaign.specs.FromRows.{clamp, as_u32, as_u16, put_rows, by_numb
 use Rattle.atl_world.specs.Every.{Every}
 use Rattle.atl_campaign.specs.Good.{IsRegion, AreInRange, HaveMen}
 use Rattle.atl_records.specs.Holdings.{IsHolding}
-use Rattle.atl_records.specs.Limits.{last_month, most_units, last_unit, men_limit, holding_limit, most_structures, most_u32}
+use Rattle.atl_records.specs.Limits.{last_month, most_units, last_unit, most_structures, most_u32}
 use Rattle.atl_campaign.specs.RowRules.{is_from, campaign_row_in_range, faction_in_range, region_in_range, unit_in_range, has_in_range, structure_in_range, books_in_range, books_bound, market_in_range, are_few, first_tables_in_range, numbers_in_range, AreRowsInRange}
 use Rattle.atl_campaign.specs.Stocks.{stock_limit}
 use Rattle.atl_rows.specs.RowColumns.{read_row}

@@ -3,12 +3,11 @@
 -- doesn't fit 32 bits (of a kind 16), also a negative one, is read as the largest; amounts of the books as they are.
 -- So keys are compared as they are read. Of rows for one key the last counts, but of campaign rows the first. A flag is
 -- set if it is any number but 0. An amount of 0 is listed, but not in the books.
-use Rattle.std.specs.Prelude.{ℕ, ℤ, pos, negsuc, Bool, not, ◌==◌, ◌&&◌, nat_lt, min, List, [], ◌∷◌, filter, slice_index_or, if◌then◌else◌}
+use Rattle.std.specs.Prelude.{ℕ, pos, Bool, ◌==◌, ◌&&◌, nat_lt, List, [], ◌∷◌, filter, slice_index_or, if◌then◌else◌}
 use Rattle.std.specs.Option.{option_map_or}
 use Rattle.std.specs.Ordering.{nat_cmp}
 use Rattle.std.specs.FinMap.{FinMap, empty, insert}
 use Rattle.atl_world.specs.Worlds.{WorldValue}
-use Rattle.atl_records.specs.Limits.{most_u16, most_u32}
 use Rattle.atl_rows.specs.declared.parts.Parts.{Parts}
 use Rattle.atl_rows.specs.declared.parts.StoredCampaignRow.{StoredCampaignRow}
 use Rattle.atl_rows.specs.declared.parts.StoredFaction.{StoredFaction}
@@ -24,7 +23,6 @@ use Rattle.atl_records.specs.declared.records.Structure.{Structure}
 use Rattle.atl_records.specs.declared.records.Unit.{Unit}
 use Rattle.atl_records.specs.Books.{BooksValue, entry_numbered, no_amounts, thing_at, with_amount}
 use Rattle.atl_campaign.specs.Founding.{thing_count}
-use Rattle.atl_campaign.specs.Rows.{is_zero}
 use Rattle.atl_campaign.specs.Campaign.{CampaignValue}
 pub use Rattle.atl_rows.specs.RowValues.{clamp, as_u32, as_u16, is_set}
 pub use Rattle.atl_campaign.specs.UnitRows.{unit_with_goods}

@@ -4,7 +4,7 @@
 -- days of study of units. A number that refers to something, or is looked up, is read by `as_u32` (of a kind `as_u16`):
 -- one that doesn't fit counts as the largest. Keys are compared as they are stored. The campaign row is the first, or
 -- `no_campaign_row` where there is none.
-use Rattle.std.specs.Prelude.{◌+◌, ◌*◌, ◌==◌, ℕ, ℤ, pos, negsuc, Bool, false, true, not, ◌&&◌, ◌||◌, nat_le, nat_lt, nat_abs, is_some, IsTrue, List, [], ◌∷◌, length, map}
+use Rattle.std.specs.Prelude.{◌+◌, ◌*◌, ◌==◌, ℕ, ℤ, pos, Bool, false, true, not, ◌&&◌, ◌||◌, nat_le, nat_lt, nat_abs, is_some, IsTrue, List, [], ◌∷◌, length, map}
 use Rattle.std.specs.List.{list_all, IsDistinct}
 use Rattle.std.specs.declared.cmp.Ordering.{Ordering}
 use Rattle.std.specs.Ordering.{int_cmp, eq_by_cmp, ordering_then, nat_cmp}
@@ -17,7 +17,7 @@ use Rattle.atl_world.specs.ByNumber.{market_of, size_of}
 use Rattle.atl_world.specs.declared.format.Format.{Format}
 use Rattle.atl_world.specs.declared.format.Format.TheVariants.{First, Second}
 use Rattle.atl_words.specs.Limits.{last_faction}
-use Rattle.atl_records.specs.Limits.{entries_in, holding_limit, last_month, last_unit, men_limit, most_in_joining, most_in_month, most_structures, most_units}
+use Rattle.atl_records.specs.Limits.{entries_in, holding_limit, last_month, last_unit, most_in_joining, most_in_month, most_structures, most_units}
 use Rattle.atl_rows.specs.declared.parts.Parts.{Parts}
 use Rattle.atl_rows.specs.declared.parts.StoredCampaignRow.{StoredCampaignRow}
 use Rattle.atl_rows.specs.declared.parts.StoredFaction.{StoredFaction}

@@ -3,8 +3,8 @@ ghost use Rattle.std.specs.Prelude.{◌≡◌};
 ghost use Rattle.atl_commands.specs.Numbers.{number_of, refusal_name, fault_name};
 ghost use Rattle.atl_commands.specs.Answering.{fault_of_write};
 
-use atl_orders::FaultyLine;
 use atl_keeping::WriteFault;
+use atl_orders::FaultyLine;
 use atl_world::{Sequence, Text, name_of};
 use std::error::Error;
 use std::fmt;

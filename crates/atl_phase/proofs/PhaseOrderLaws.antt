@@ -77,7 +77,8 @@ module _ (is_of : Verb → Bool) (aliases : Aliases) (readings : FinMap nat_cmp 
       all_append IsPhaseOrder (tasks_for is_of ts) (tasks_of_phase is_of aliases es)
       (kept _ IsPhaseOrder ts (counted e.0 e.1 h.0 0 e.1.entries (λ j x is. let at : j ≡ 0 + j = omega arith in subst (λ n. slice_get e.1.entries n ≡ Some x) at is))) (all_count es h.1)
 
-  -- each order of a phase is under its key, is in its faction's mailing, counts there, and has a verb of the phase
+  -- in the map of a phase's orders by key each is under its own key, in its faction's mailing, counts, and has a verb of
+  -- the phase
   pub orders_count : (a : Arrangement)
       → AllByRecursion (λ e. (e.0 ≡ key_of a e.1) × IsPhaseOrder e.1) (entries (under_keys (key_of a) (tasks_of_phase is_of aliases (entries readings))))
   orders_count a =

@@ -1,7 +1,7 @@
 -- Laws of reading a good campaign back: from its rows, in any order, the same campaign is assembled.
 -- c is a good campaign of the world w, which keeps the rules of worlds (`world`); the format f can hold c, and p are
 -- its rows, in any order. Numbers are read from rows as most_u32 or most_u16 at most.
-use Rattle.std.proofs.Common.{◌≡◌, ℕ, zero, suc, ◌≤◌, ◌<◌, ◌+◌, ◌*◌, List, [], ◌∷◌, Bool, true, false, length, None, refl, sym, ap, subst, ◌∙◌, arith}
+use Rattle.std.proofs.Common.{◌≡◌, ℕ, zero, suc, ◌≤◌, ◌<◌, ◌+◌, ◌*◌, List, [], ◌∷◌, true, false, length, None, refl, sym, ap, subst, ◌∙◌, arith}
 use Rattle.std.specs.Prelude.{ℤ, pos, is_some, slice_index_or}
 use Rattle.std.specs.List.{AllByRecursion, IsDistinct}
 use Rattle.std.specs.List.Sorted.{IsPermutation}
@@ -25,13 +25,13 @@ use Rattle.atl_records.specs.declared.records.Unit.{Unit}
 use Rattle.atl_records.specs.Books.{no_amounts}
 use Rattle.atl_state.specs.Checking.{Fits}
 use Rattle.atl_campaign.specs.Founding.{thing_count}
-use Rattle.atl_campaign.specs.FromRows.{as_u32, as_u16, is_set, faction_of, stocks_of, region_of, structure_of, unit_of, by_number, with_books_rows, things_had, no_campaign_row, campaign_row_of, campaign_of}
+use Rattle.atl_campaign.specs.FromRows.{as_u32, as_u16, faction_of, stocks_of, region_of, structure_of, unit_of, by_number, with_books_rows, things_had, no_campaign_row, campaign_row_of, campaign_of}
 use Rattle.atl_world.specs.Every.{Every, HasValue}
 use Rattle.atl_campaign.specs.Good.{IsNumbered, IsGood}
 use Rattle.atl_records.specs.Holdings.{AreAmounts}
-use Rattle.atl_records.specs.Limits.{last_month, last_unit, men_limit, holding_limit, most_structures, most_days, most_u16, most_u32}
+use Rattle.atl_records.specs.Limits.{last_month, last_unit, men_limit, most_structures, most_days, most_u16, most_u32}
 use Rattle.atl_campaign.specs.RowRules.{one_key, market_key, HaveDistinctKeys}
-use Rattle.atl_campaign.specs.Rows.{flag, rows_by, campaign_row, faction_row, region_row, unit_row, structure_row, mail_row, report_row, has_rows, books_rows, market_row, market_rows, rows_of, AreRowsOf}
+use Rattle.atl_campaign.specs.Rows.{rows_by, campaign_row, faction_row, region_row, unit_row, structure_row, mail_row, report_row, has_rows, books_rows, market_row, market_rows, rows_of, AreRowsOf}
 use Rattle.atl_campaign.specs.Campaign.{CampaignValue}
 use Rattle.atl_campaign.proofs.AssemblyLaws.{min_small}
 use Rattle.atl_campaign.proofs.ColumnLaws.{AreFrom, Refer, flag_back, values_back}

@@ -34,19 +34,19 @@ use Rattle.atl_records.specs.declared.records.Region.{Region}
 use Rattle.atl_records.specs.declared.records.Unit.{Unit}
 use Rattle.atl_records.specs.Books.{no_amounts}
 use Rattle.atl_campaign.specs.Founding.{thing_count}
-use Rattle.atl_campaign.specs.FromRows.{as_u32, as_u16, is_set, is_of_unit_and_sort, faction_of, region_of, structure_of, unit_of, things_had, by_number, with_books_rows, no_campaign_row, campaign_row_of, campaign_of}
+use Rattle.atl_campaign.specs.FromRows.{as_u32, as_u16, is_of_unit_and_sort, faction_of, region_of, structure_of, unit_of, things_had, by_number, with_books_rows, no_campaign_row, campaign_row_of, campaign_of}
 use Rattle.atl_world.specs.Every.{Every, HasValue}
 use Rattle.atl_campaign.specs.Good.{IsPlaced, IsBuilt, AreKnown, AreDays}
 use Rattle.atl_records.specs.Limits.{last_month, last_unit, men_limit, holding_limit, most_structures, entry_count, entries_in, most_u16, most_u32}
 use Rattle.atl_campaign.specs.RowRules.{one_key, is_from, is_one_campaign_row, are_of_format, campaign_row_in_range, faction_in_range, region_in_range, unit_in_range, has_in_range, structure_in_range, books_in_range, books_bound, market_in_range, is_within, faction_key, region_key, unit_key, structure_key, mail_key, report_key, AreRowsInRange, is_of_unit, is_of_market, is_entry_in, is_booked}
-use Rattle.atl_campaign.specs.Rows.{flag, is_zero, rows_by, faction_row, region_row, unit_row, structure_row, mail_row, report_row, has_rows, books_rows, market_rows, AreRowsOf, rows_of}
+use Rattle.atl_campaign.specs.Rows.{is_zero, rows_by, faction_row, region_row, unit_row, structure_row, mail_row, report_row, has_rows, books_rows, market_rows, AreRowsOf, rows_of}
 use Rattle.atl_campaign.specs.Stocks.{stock_limit}
 use Rattle.atl_campaign.proofs.AssemblyLaws.{from_range}
 use Rattle.atl_campaign.proofs.ColumnLaws.{fields_back, flag_whole, whole_below}
 use Rattle.atl_rows.specs.UnitColumns.{unit_columns, unit_fields, unit_of_fields}
 use Rattle.atl_records.proofs.BookLaws.{failing_is_nonzero}
 use Rattle.atl_state.proofs.BooksRowLaws.{IsBooked, booked_row, assembled_books_have_rows}
-use Rattle.atl_campaign.proofs.FromRowLaws.{in_range, from_le, by_number-every, unit_numbers, number_ranges, head_ranges, NumberRanges}
+use Rattle.atl_campaign.proofs.FromRowLaws.{from_le, by_number-every, unit_numbers, number_ranges, head_ranges, NumberRanges}
 use Rattle.atl_campaign.proofs.GroupLaws.{unkept}
 use Rattle.atl_campaign.proofs.HasLaws.{FitsU32, KeyFitsU32, IsExactGoods, IsOfUnits, is_same_key, ties_itself, things_apart, has_rows_are_rewritten}
 use Rattle.atl_campaign.proofs.MarketLaws.{market_known}
@@ -195,7 +195,7 @@ no_rows [] h = refl
 no_rows (r ∷ rows) h = absurd (grind (arith, nat_tests))
 
 module _ (f : Format) (w : WorldValue) (p : Parts) (k : RowsKeep f w p) where
-  -- the numbers of the rows are in their ranges, table by table (NumberRanges)
+  -- the numbers of the rows are in their ranges, in each table but `mail` and `report` (NumberRanges)
   pub ranges : NumberRanges w p
   ranges = number_ranges w p k.range.numbers
 

@@ -50,7 +50,8 @@ impl Record for StoredUnit {
     }
 
     fn of_fields(fields: <UnitFields as Fields>::Value) -> StoredUnit {
-        let (number, (faction, (name, (region, (structure, (men, (money, (guard, ())))))))) = fields;
+        let (number, (faction, (name, (region, (structure, (men, (money, (guard, ())))))))) =
+            fields;
         StoredUnit {
             number,
             faction,

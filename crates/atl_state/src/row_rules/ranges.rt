@@ -13,8 +13,8 @@ use atl_campaign::parts::{
 };
 use atl_campaign::{as_u16, as_u32, campaign_row_of, is_from, is_set, unit_in_range};
 use atl_records::{
-    HOLDING_LIMIT, LAST_MONTH, LAST_UNIT, MOST_IN_JOINING, MOST_IN_MONTH,
-    MOST_STRUCTURES, MOST_UNITS,
+    HOLDING_LIMIT, LAST_MONTH, LAST_UNIT, MOST_IN_JOINING, MOST_IN_MONTH, MOST_STRUCTURES,
+    MOST_UNITS,
 };
 use atl_words::LAST_FACTION;
 use atl_world::World;
