@@ -36,13 +36,19 @@ def _link_or_copy(source: str, target: str) -> object:
     return target
 
 
-def _files_of(root: Path) -> dict[str, tuple[int, int]]:
-    return {str(path.relative_to(root)): (path.stat().st_ino if path.parent.name != "office" else 0, path.stat().st_size)
-            for path in root.rglob("*") if path.is_file() and path.parent.name != "office"}
+def _files_of(root: Path) -> dict[str, tuple[int, int, int]]:
+    """By its name, whether a file is the same one, as large, and written at the same time: a database is written in
+    place, and all else replaced."""
+    seen = {path: path.stat() for path in root.rglob("*") if path.is_file() and path.parent.name != "office"}
+    return {str(path.relative_to(root)): (at.st_ino, at.st_size, at.st_mtime_ns) for path, at in seen.items()}
 
 
 def _try(command: Command, words: argparse.Namespace) -> int:
-    """Runs the command on a copy of the club's folder, and says which files it would make, change and remove."""
+    """Runs the command on a copy of the club's folder, and says which files it would make, change and remove. What it
+    would ask is only said."""
+    say("dry run: on a copy of the folder, so nothing of what follows is done")
+    if hasattr(words, "yes"):
+        words.yes = True
     club = club_of(words)
     with tempfile.TemporaryDirectory(prefix="kiwirudder-") as folder:
         copy = Path(folder) / "club"
