@@ -288,7 +288,7 @@ def _ask_about_haste(club: Club, campaign: Campaign, month: int | None, now: dat
     if month is not None or closed is None or now - closed >= SECOND_CALL:
         return []
     return [f"Month {campaign.month} was closed on {closed:%Y-%m-%d at %H:%M}, less than a day ago, and now it is "
-            f"month {campaign.open_month}."]
+            f"month {campaign.open_month}. (`kiwirudder close {campaign.open_month}` doesn't ask this.)"]
 
 
 def _closed_at(club: Club, month: int) -> datetime | None:

@@ -308,7 +308,7 @@ class Asked(ClubOfTwo):
         self.club.mail(2, "UNIT 2", "WORK")
         [asked] = self.ask()
         self.assertRegex(asked, r"^Month 1 was closed on \d{4}-\d\d-\d\d at \d\d:\d\d, less than a day ago, and now "
-                                r"it is month 2\.$")
+                                r"it is month 2\. \(`kiwirudder close 2` doesn't ask this\.\)$")
         self.assertEqual(self.ask(2), [])
         self.assertEqual(self.ask(days=1), [])
         Closings(self.club.club).note(1, self.club.club.now() + timedelta(days=3))
