@@ -90,7 +90,7 @@ impl<N: Drop> Drop for Operands<N> {
 
 /// An order: its verb, and what the words after it name. These have the shape that the order table
 /// gives the verb. See docs/RULES.md, "Orders".
-#[derive(Drop, Debug)]
+#[derive(Drop)]
 pub struct Order<N: Drop = Span> {
     pub verb: Verb,
     pub operands: Operands<N>,

@@ -1,4 +1,3 @@
-pub mod TurnLaws
 pub mod WantLaws
 pub mod AskLaws
 pub mod DrawLaws

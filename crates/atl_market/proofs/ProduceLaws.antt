@@ -32,13 +32,12 @@ use Rattle.atl_campaign.proofs.ReadBackLaws.{Rise, entries_rise}
 use Rattle.atl_world.proofs.EveryLaws.{each-from_every, none_some, same_number}
 use Rattle.atl_phase.specs.Outcomes.{first_fault}
 use Rattle.atl_phase.specs.Meaning.{BookBound, LeavesWell, both_move, most_moved, moves_only}
-use Rattle.atl_phase.specs.Bounds.{HasRoom, HaveRoom, moved_times}
+use Rattle.atl_phase.specs.Bounds.{CanInTurn, HasRoom, HaveRoom, moved_times}
 use Rattle.atl_phase.specs.PhaseOrders.{Task}
 use Rattle.atl_records.proofs.HoldingLaws.{amount_within}
 use Rattle.atl_phase.proofs.MeaningLaws.{IsBoundWithin, both_leave_well, amount_room_for_less, room_for_second, room_less, well_unchanged, well_within}
 use Rattle.atl_market.specs.Making.{CanMake, CanMakeOf, CanProduce, CanUse, HasRoomAndRaw}
 use Rattle.atl_market.specs.PotPhase.{after_sharing, given_by, item_in, items_by}
-use Rattle.atl_market.specs.Bounds.{CanInTurn}
 use Rattle.atl_market.specs.Produce.{after_production, item_of, most_makeable, most_makeable_of, numbered_item, produce_fault, produce_moves, produce_pots, up_to_raw, with_raw_used}
 use Rattle.atl_market.specs.Goods.{with_made, with_used}
 use Rattle.atl_market.specs.Unordered.{OthersAreNoWorse}
@@ -47,7 +46,7 @@ use Rattle.atl_market.proofs.MakesLaws.{produce_gives_to_wants}
 use Rattle.atl_market.proofs.UnorderedLaws.{others_no_worse}
 use Rattle.atl_market.proofs.ItemUseLaws.{made_others, made_well, no_more, used_others, used_unit, used_well}
 use Rattle.atl_market.proofs.ThereLaws.{by_option}
-use Rattle.atl_market.proofs.TurnLaws.{first_room, later_room, turns_leave_well}
+use Rattle.atl_phase.proofs.TurnLaws.{first_room, later_room, turns_leave_well}
 use Rattle.atl_market.proofs.WantLaws.{few_given, given_is_named}
 
 -- ---- what is moved

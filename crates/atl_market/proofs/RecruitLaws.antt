@@ -27,13 +27,12 @@ use Rattle.atl_campaign.proofs.ReadBackLaws.{entries_rise}
 use Rattle.atl_world.proofs.EveryLaws.{each-from_every, get-insert_other}
 use Rattle.atl_campaign.proofs.RegionLaws.{IsRegion-peasants, steady-region}
 use Rattle.atl_phase.specs.Meaning.{LeavesWell, BookBound, most_moved}
-use Rattle.atl_phase.specs.Bounds.{HaveRoom, moved_times}
+use Rattle.atl_phase.specs.Bounds.{CanInTurn, HaveRoom, moved_times}
 use Rattle.atl_phase.specs.PhaseOrders.{Task}
 use Rattle.atl_phase.proofs.BookingLaws.{within-neg}
 use Rattle.atl_phase.proofs.MeaningLaws.{room_less, well_within}
 use Rattle.atl_pots.proofs.PotLaws.{pots_give}
 use Rattle.atl_market.specs.PotPhase.{after_sharing, given_by}
-use Rattle.atl_market.specs.Bounds.{CanInTurn}
 use Rattle.atl_market.specs.Recruit.{after_recruiting, recruit_moves, recruit_pots, recruits_at, with_paid_recruits}
 use Rattle.atl_market.specs.Unordered.{OthersAreNoWorse}
 use Rattle.atl_market.proofs.DrawLaws.{SharesArePayable, Drains, DrawnPots, HaveEnough, all_pairs, drawn, one_drains, one_draws, pot_is_enough, ready_after, region_pots, untouched, draws_region}
@@ -41,7 +40,7 @@ use Rattle.atl_campaign.proofs.HavingLaws.{MayHave, may_have}
 use Rattle.atl_market.proofs.ExchangeLaws.{KeepsTogether, exchange_well}
 use Rattle.atl_market.proofs.UnorderedLaws.{others_no_worse}
 use Rattle.atl_market.proofs.ThereLaws.{by_region, by_unit, region_there, unit_there}
-use Rattle.atl_market.proofs.TurnLaws.{few_holdings, first_room, later_room, turns_leave_well}
+use Rattle.atl_phase.proofs.TurnLaws.{few_holdings, first_room, later_room, turns_leave_well}
 use Rattle.atl_market.proofs.WantLaws.{few_given, given_is_wanted}
 use Rattle.atl_market.specs.Payable.{CanRecruit}
 

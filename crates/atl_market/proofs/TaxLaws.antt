@@ -26,7 +26,7 @@ use Rattle.atl_world.proofs.EveryLaws.{each-from_every}
 use Rattle.atl_campaign.proofs.HoldingLaws.{may_hold_money, of_one_faction_kept, steady-new_holding, total-new_holding}
 use Rattle.atl_campaign.proofs.RegionLaws.{IsRegion-money, steady-region, total-region}
 use Rattle.atl_phase.specs.Meaning.{LeavesWell}
-use Rattle.atl_phase.specs.Bounds.{moved_times}
+use Rattle.atl_phase.specs.Bounds.{CanInTurn, moved_times}
 use Rattle.atl_phase.specs.NoWorse.{AreNoWorse}
 use Rattle.atl_phase.specs.Unbooked.{moves_nothing}
 use Rattle.atl_phase.specs.PhaseOrders.{Task}
@@ -34,12 +34,11 @@ use Rattle.atl_phase.proofs.MeaningLaws.{near_same, same_month_by, well_within}
 use Rattle.atl_phase.proofs.NoWorseLaws.{are_no_worse, are_no_worse_twice}
 use Rattle.atl_pots.proofs.PotLaws.{pots_give}
 use Rattle.atl_market.specs.PotPhase.{after_sharing, given_by}
-use Rattle.atl_market.specs.Bounds.{CanInTurn}
 use Rattle.atl_market.specs.Tax.{after_tax, money_at, tax_pots}
 use Rattle.atl_market.proofs.DrawLaws.{SharesArePayable, Drains, DrawnPots, HaveEnough, all_pairs, drawn, one_drains, one_draws, pot_is_enough, ready_after, region_pots, untouched, draws_region}
 use Rattle.atl_market.proofs.MoreMoneyLaws.{others_stay, paid, richer, richer_is, richer_no_worse}
 use Rattle.atl_market.proofs.ThereLaws.{by_region, by_unit, region_there, unit_there}
-use Rattle.atl_market.proofs.TurnLaws.{turns_leave_well}
+use Rattle.atl_phase.proofs.TurnLaws.{turns_leave_well}
 use Rattle.atl_market.proofs.WantLaws.{given_is_wanted}
 use Rattle.atl_market.specs.Payable.{CanTax}
 

@@ -43,7 +43,7 @@ use Rattle.atl_campaign.proofs.HavingLaws.{MayHave, may_have}
 use Rattle.atl_records.proofs.HoldingLaws.{compared_equal_is_equal, amount_within, every_amount, amount_after_setting}
 use Rattle.atl_campaign.proofs.StockLaws.{restocked, steady-stock}
 use Rattle.atl_phase.specs.Meaning.{LeavesWell, BookBound, moves_only, most_moved}
-use Rattle.atl_phase.specs.Bounds.{HasRoom, HaveRoom, moved_times}
+use Rattle.atl_phase.specs.Bounds.{CanInTurn, HasRoom, HaveRoom, moved_times}
 use Rattle.atl_phase.specs.Holdings.{ChangesHolding}
 use Rattle.atl_phase.specs.PhaseOrders.{Task}
 use Rattle.atl_phase.proofs.BookingLaws.{within-neg, within-pos}
@@ -55,7 +55,6 @@ use Rattle.atl_pots.specs.Pots.{asks_for, wants_for}
 use Rattle.atl_pots.proofs.ItemPotLaws.{items_give, shares_at}
 use Rattle.atl_market.specs.AtOnce.{is_in_region}
 use Rattle.atl_market.specs.PotPhase.{after_sharing, count_in, given_by, item_in, items_by, wants_by}
-use Rattle.atl_market.specs.Bounds.{CanInTurn}
 use Rattle.atl_market.specs.Trade.{after_trade, limit_of, market_for, market_pot, trade_entry, trade_fault, trade_moves, trade_pot, trade_pots, trade_result_of, trade_want, with_trade_booked, with_trade_result}
 use Rattle.atl_market.specs.Trading.{CanAfford, CanBookTrade, CanTrade, MarketAllowsShare}
 use Rattle.atl_market.specs.Unordered.{OthersAreNoWorse}
@@ -67,7 +66,7 @@ use Rattle.atl_market.proofs.ExchangeLaws.{KeepsTogether, exchange_well}
 use Rattle.atl_market.proofs.UnorderedLaws.{others_no_worse}
 use Rattle.atl_market.proofs.ProduceLaws.{only_room}
 use Rattle.atl_market.proofs.ThereLaws.{by_option, by_unit, unit_there}
-use Rattle.atl_market.proofs.TurnLaws.{few_holdings, first_room, later_room, turns_leave_well}
+use Rattle.atl_phase.proofs.TurnLaws.{few_holdings, first_room, later_room, turns_leave_well}
 use Rattle.atl_market.proofs.WantLaws.{GivesToWants, few_given, given_is_named}
 use Rattle.atl_market.proofs.ItemUseLaws.{put_to, taken_off}
 

@@ -32,7 +32,7 @@ use Rattle.atl_world.proofs.EveryLaws.{each-from_every}
 use Rattle.atl_campaign.proofs.HoldingLaws.{may_hold_money, steady-new_holding, total-new_holding}
 use Rattle.atl_campaign.proofs.RegionLaws.{steady-amount, total-booking}
 use Rattle.atl_phase.specs.Meaning.{LeavesWell, BookBound, most_moved}
-use Rattle.atl_phase.specs.Bounds.{HaveRoom, moved_times}
+use Rattle.atl_phase.specs.Bounds.{CanInTurn, HaveRoom, moved_times}
 use Rattle.atl_phase.specs.NoWorse.{AreNoWorse}
 use Rattle.atl_phase.specs.PhaseOrders.{Task}
 use Rattle.atl_phase.proofs.BookingLaws.{booked-near, within-pos}
@@ -40,12 +40,11 @@ use Rattle.atl_phase.proofs.MeaningLaws.{room_less, same_month_by, well_within}
 use Rattle.atl_phase.proofs.NoWorseLaws.{are_no_worse, are_no_worse_twice}
 use Rattle.atl_pots.proofs.PotLaws.{pots_give}
 use Rattle.atl_market.specs.PotPhase.{after_sharing, given_by}
-use Rattle.atl_market.specs.Bounds.{CanInTurn}
 use Rattle.atl_market.specs.Work.{after_work, places_at, wages_for, work_moves, work_pots, work_want}
 use Rattle.atl_market.proofs.DrawLaws.{all_pairs}
 use Rattle.atl_market.proofs.MoreMoneyLaws.{others_stay, paid, richer, richer_is, richer_no_worse}
 use Rattle.atl_market.proofs.ThereLaws.{by_unit, unit_there}
-use Rattle.atl_market.proofs.TurnLaws.{few_holdings, first_room, later_room, turns_leave_well}
+use Rattle.atl_phase.proofs.TurnLaws.{few_holdings, first_room, later_room, turns_leave_well}
 use Rattle.atl_market.proofs.WantLaws.{few_given, given_is_wanted}
 use Rattle.atl_market.specs.Payable.{CanWork}
 

@@ -1,6 +1,6 @@
--- What BUILD needs of a campaign and its world (`CanBuild`). The rest is for proofs alone: steps that can be carried
--- out in turn (`CanInTurn`), and how far BUILD may still move the books (`build_remaining`).
-use Rattle.std.specs.Prelude.{⊤, ℕ, ◌≡◌, ◌==◌, length, List, [], ◌∷◌, Some, if◌then◌else◌}
+-- What BUILD needs of a campaign and its world (`CanBuild`), and for proofs alone how far BUILD may still move the
+-- books (`build_remaining`).
+use Rattle.std.specs.Prelude.{ℕ, ◌≡◌, ◌==◌, length, Some, if◌then◌else◌}
 use Rattle.std.specs.List.{slice_get}
 use Rattle.atl_world.specs.Worlds.{IsKind, WorldValue}
 use Rattle.atl_world.specs.Sums.{sum_over}
@@ -14,13 +14,6 @@ use Rattle.atl_records.specs.Holdings.{HoldingValue, amount_of}
 use Rattle.atl_campaign.specs.Good.{IsSteady}
 use Rattle.atl_campaign.specs.Campaign.{CampaignValue}
 use Rattle.atl_phase.specs.Bounds.{RemainingBound}
-
--- The condition that `step` can be carried out for each element of a list in turn, the first element first. `can` holds
--- of each in the campaign that the steps ahead of it leave. Payments of shares are such steps.
-abbrev pub CanInTurn : {X : Type 0} → (CampaignValue → X → Type 0) → (CampaignValue → X → CampaignValue)
-    → CampaignValue → List X → Type 0
-CanInTurn can step c [] = ⊤
-CanInTurn can step c (x ∷ xs) = can c x × CanInTurn can step (step c x) xs
 
 -- what BUILD needs: the campaign is steady, and each kind of the world keeps the rules of kinds (`IsKind`)
 pub record CanBuild (w : WorldValue) (c : CampaignValue) : Type 0 where

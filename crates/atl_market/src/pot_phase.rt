@@ -15,7 +15,7 @@ ghost use Rattle.atl_phase.specs.PhaseOrders.{task_of};
 ghost use Rattle.atl_pots.specs.Pots.{AreWants};
 ghost use Rattle.atl_pots.specs.Puts.{with_entry_if_some};
 ghost use Rattle.atl_market.specs.PotPhase.{PotMeaning, after_sharing, asks_count, count_in, event_of, events_by, given_by, item_by, item_in, items_by, unit_for, want_by, wants_by};
-ghost use Rattle.atl_market.specs.Bounds.{CanInTurn};
+ghost use Rattle.atl_phase.specs.Bounds.{CanInTurn};
 
 use atl_campaign::{Campaign, Event, EventFault, Outcome, Unit};
 use atl_orders::Operands;

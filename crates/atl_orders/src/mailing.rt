@@ -22,7 +22,7 @@ use atl_world::{Sequence, World, let_go};
 use std::alloc::{AllocError, Global};
 
 /// An order of a mailing, with its line's number and the unit that it is for.
-#[derive(Drop, Debug)]
+#[derive(Drop)]
 pub struct Entry {
     /// The number of the order's line, from 1 on over the whole text.
     pub line: u32,
@@ -33,7 +33,6 @@ pub struct Entry {
 
 /// A mailing as read: its faction, its orders, and its faulty lines.
 /// See docs/RULES.md, "Reading a mailing".
-#[derive(Debug)]
 pub struct Mailing {
     /// The number of the faction that the header names, from 1 to `LAST_FACTION`.
     pub faction: u32,

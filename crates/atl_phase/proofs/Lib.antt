@@ -9,6 +9,7 @@ pub mod PhaseOrderLaws
 pub mod OneOrderLaws
 pub mod FoldLaws
 pub mod MeaningLaws
+pub mod TurnLaws
 pub mod RoomLaws
 pub mod BookingLaws
 pub mod HeldLaws

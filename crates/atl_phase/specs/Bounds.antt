@@ -1,6 +1,6 @@
 -- Bounds on the amounts of the books: the room that each phase requires (`HaveRoom`). The rest is for proofs alone:
--- the conditions on the step that carries out one order.
-use Rattle.std.specs.Prelude.{ℕ, ℤ, pos, ◌≡◌, ◌≤◌, ◌+◌, ◌*◌, ◌+ℤ◌, ◌≤ℤ◌, List, [], ◌∷◌, Some, IfSome}
+-- the conditions on the step that carries out one order, and on steps that are carried out in turn (`CanInTurn`).
+use Rattle.std.specs.Prelude.{⊤, ℕ, ℤ, pos, ◌≡◌, ◌≤◌, ◌+◌, ◌*◌, ◌+ℤ◌, ◌≤ℤ◌, List, [], ◌∷◌, Some, IfSome}
 use Rattle.std.specs.FinMap.{get}
 use Rattle.atl_world.specs.Worlds.{WorldValue}
 use Rattle.atl_orders.specs.Bounds.{IsOrderOf}
@@ -104,3 +104,12 @@ nothing_remaining c = moves_nothing
 abbrev pub items_bound : List (ℕ × ℕ) → BookBound
 items_bound [] e t = 0
 items_bound (x ∷ xs) e t = moves_only x.1 Lost (Item x.0) e t + items_bound xs e t
+
+-- ---- steps in turn
+
+-- The condition that `step` can be carried out for each element of a list in turn, the first element first. `can` holds
+-- of each in the campaign that the steps ahead of it leave. Payments of shares are such steps.
+abbrev pub CanInTurn : {X : Type 0} → (CampaignValue → X → Type 0) → (CampaignValue → X → CampaignValue)
+    → CampaignValue → List X → Type 0
+CanInTurn can step c [] = ⊤
+CanInTurn can step c (x ∷ xs) = can c x × CanInTurn can step (step c x) xs

@@ -12,7 +12,7 @@ use std::marker::Model;
 
 /// An entry of the books: why an amount of a thing came in or went.
 /// A move between holders has no entry. See docs/RULES.md, "Books".
-#[derive(Drop, Clone, Copy, Debug, PartialEq, Eq)]
+#[derive(Drop, Clone, Copy, PartialEq, Eq)]
 pub enum BooksEntry {
     /// The money and the peasants that the regions begin with.
     Founding = 1,
@@ -49,7 +49,7 @@ pub enum BooksEntry {
 }
 
 /// What amounts are booked of: money, people, or an item.
-#[derive(Drop, Clone, Copy, Debug, PartialEq, Eq)]
+#[derive(Drop, Clone, Copy, PartialEq, Eq)]
 pub enum Thing {
     Money,
     /// Peasants and men.

@@ -6,7 +6,7 @@ use std::error::Error;
 use std::fmt;
 
 /// What an event reports on: an order, a unit's work without an order, or its upkeep.
-#[derive(Drop, Clone, Copy, Debug, PartialEq, Eq)]
+#[derive(Drop, Clone, Copy, PartialEq, Eq)]
 pub enum EventVerb {
     Order(Verb),
     Upkeep,
@@ -130,7 +130,7 @@ impl fmt::Display for EventFault {
 impl Error for EventFault {}
 
 /// What came of an order, of work without one, or of upkeep: done, a fault, or men that starved.
-#[derive(Drop, Clone, Copy, Debug, PartialEq, Eq)]
+#[derive(Drop, Clone, Copy, PartialEq, Eq)]
 pub enum Outcome {
     /// The order or the work was carried out. The number is the one that its rule names (a unit
     /// that was formed, or how many men, days, pieces or how much money), or 0 where it names none.
@@ -142,7 +142,7 @@ pub enum Outcome {
 }
 
 /// An event of a month: an order, a unit's work without an order, or its upkeep, and the outcome.
-#[derive(Drop, Clone, Copy, Debug, PartialEq, Eq)]
+#[derive(Drop, Clone, Copy, PartialEq, Eq)]
 pub struct Event {
     /// The number of the faction whose report has the event: the one that wrote the order, or whose
     /// unit it is.

@@ -12,7 +12,7 @@ const JOINING_STREAMS: u64 = 10_000;
 
 /// The dice of a campaign, by the seed that a club chose. The same seed gives the same words.
 /// See docs/FORMATS.md, "Dice".
-#[derive(Clone, Copy, Debug)]
+#[derive(Clone, Copy)]
 pub struct Dice {
     pub seed: u64,
 }

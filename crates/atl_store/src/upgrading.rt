@@ -10,7 +10,7 @@ use crate::fault::UpgradeFault;
 use crate::loading::load_as;
 use atl_campaign::Campaign;
 use atl_sql::schema::is_first_format_only;
-use atl_tables::read_world;
+use atl_tables::{are_same_but_for_markets, read_world};
 use atl_world::{Format, World};
 use atl_writing::write_upgrade;
 use sqlite::{Alter, Connection};
@@ -35,7 +35,7 @@ fn world_and_campaign<S: Alter>(
     }
     let (old_world, campaign) = load_as(alloc, conn, Format::First)?;
     let world = read_world(alloc, new_world)?;
-    if !world.is_same_but_for_markets(&old_world) {
+    if !are_same_but_for_markets(&world, &old_world) {
         return Err(UpgradeFault::Differs);
     }
     Ok((world, campaign))

@@ -8,3 +8,4 @@ pub mod SeenLaws
 pub mod DuplicateLaws
 pub mod WorldLaws
 pub mod OldWorldLaws
+pub mod SameLaws

@@ -14,6 +14,7 @@ mod reading;
 mod region_table;
 mod regions;
 mod rules_table;
+mod same_worlds;
 mod skill_table;
 mod terrain_table;
 mod titles;
@@ -25,3 +26,4 @@ pub use atl_world::{
 };
 pub use fault::WorldFault;
 pub use reading::{old_worlds_have_no_markets, read_old_world, read_world};
+pub use same_worlds::are_same_but_for_markets;

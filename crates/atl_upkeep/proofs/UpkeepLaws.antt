@@ -38,7 +38,7 @@ use Rattle.atl_world.proofs.EveryLaws.{each-from_every, every-empty, get-insert_
 use Rattle.atl_campaign.proofs.HoldingLaws.{MayHaveWithoutNewGuard, steady-new_holding, total-new_holding}
 use Rattle.atl_campaign.proofs.RegionLaws.{steady-amount, total-booking, get-insert_same}
 use Rattle.atl_phase.specs.Meaning.{IsNear, LeavesWell, BookBound, moves_only, most_moved}
-use Rattle.atl_phase.specs.Bounds.{HaveRoom, moved_times}
+use Rattle.atl_phase.specs.Bounds.{CanInTurn, HaveRoom, moved_times}
 use Rattle.atl_phase.specs.Holdings.{with_days}
 use Rattle.atl_phase.proofs.MeaningLaws.{IsBoundWithin, near_twice, room_less, same_month_by, well_within}
 use Rattle.atl_phase.proofs.BookingLaws.{booked-near, within-neg}
@@ -47,8 +47,7 @@ use Rattle.atl_instant.specs.Transfer.{going_of}
 use Rattle.atl_instant.proofs.AmountsForLaws.{as_said, each_said, same_amounts}
 use Rattle.atl_records.proofs.HoldingLaws.{every_amount}
 use Rattle.atl_instant.proofs.DaysLaws.{none_go, set_again, set_each}
-use Rattle.atl_market.specs.Bounds.{CanInTurn}
-use Rattle.atl_market.proofs.TurnLaws.{first_room, later_room, turns_leave_well}
+use Rattle.atl_phase.proofs.TurnLaws.{first_room, later_room, turns_leave_well}
 use Rattle.atl_shares.specs.declared.upkeep_sharing.UpkeepInput.{UpkeepInput}
 use Rattle.atl_shares.specs.declared.upkeep_sharing.UpkeepResult.{UpkeepResult}
 use Rattle.atl_shares.specs.UpkeepSharing.{AreInOrder, CanSpare, peers_of, upkeep_result_among}

@@ -5,7 +5,7 @@ ghost use Rattle.atl_world.specs.Worlds.{WorldValue};
 ghost use Rattle.atl_campaign.specs.Covers.{MarksChanges};
 ghost use Rattle.atl_phase.specs.Holdings.{MarksNoGoods, MarksNoItems};
 ghost use Rattle.atl_phase.specs.Meaning.{most_moved};
-ghost use Rattle.atl_market.specs.Bounds.{CanInTurn};
+ghost use Rattle.atl_phase.specs.Bounds.{CanInTurn};
 ghost use Rattle.atl_shares.specs.UpkeepSharing.{IsUpkeepInput};
 ghost use Rattle.atl_upkeep.specs.UpkeepTaken.{CanPayUpkeep, IsAfterUpkeep, staying_list};
 ghost use Rattle.atl_upkeep.specs.Upkeep.{starved_event, starves, takes_up_to, upkeep, upkeep_at, upkeep_inputs_of, upkeep_keeps, upkeep_meaning};

@@ -11,7 +11,6 @@ pub mod SumLaws
 pub mod NameLaws
 pub mod MappedLaws
 pub mod TrackLaws
-pub mod SameLaws
 pub mod EveryLaws
 pub mod KeyLaws
 pub mod SortedMapLaws

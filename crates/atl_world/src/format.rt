@@ -3,7 +3,7 @@ ghost use Rattle.std.specs.Prelude.{◌≡◌};
 ghost use Rattle.atl_world.specs.Formats.{format_number};
 
 /// A format of a world file and of a campaign's tables. The formats differ in markets alone.
-#[derive(Drop, Clone, Copy, Debug)]
+#[derive(Drop, Clone, Copy)]
 pub enum Format {
     /// No region has a market.
     First,

@@ -14,7 +14,6 @@ mod marked_numbers;
 mod marks;
 mod names;
 mod numbered;
-mod same_worlds;
 mod sequence;
 mod sorted_numbers;
 mod text;

@@ -34,7 +34,6 @@ const CAMPAIGN: Table = Table {
 };
 
 /// A row of the table `campaign`, whoever wrote it, with its world text.
-#[derive(Debug)]
 pub struct StoredCampaign {
     /// All columns of the row but the world text.
     pub head: StoredCampaignRow,

@@ -3,7 +3,7 @@
 //! tests/program/worlds.py has more worlds that differ.
 use super::worlds::{read_in, with_markets};
 use crate::tests::compare::{assert_shown, assert_true};
-use atl_tables::read_world;
+use atl_tables::{are_same_but_for_markets, read_world};
 use atl_test_worlds::SMALL_WORLD;
 use atl_world::{Format, World};
 use std::alloc::Global;
@@ -48,7 +48,7 @@ fn assert_difference(
     alone: bool,
 ) -> Result<(), Fail> {
     let other = read_world(alloc, text)?;
-    assert_true(rt, world.is_same_but_for_markets(&other) == alone);
+    assert_true(rt, are_same_but_for_markets(world, &other) == alone);
     Ok(())
 }
 

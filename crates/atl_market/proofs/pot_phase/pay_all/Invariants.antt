@@ -3,7 +3,7 @@ use Rattle.std.specs.Prelude.{fold}
 use Rattle.std.specs.FinMap.{entries}
 use Rattle.atl_campaign.specs.Covers.{MarksChanges}
 use Rattle.atl_market.specs.PotPhase.{PotMeaning}
-use Rattle.atl_market.specs.Bounds.{CanInTurn}
+use Rattle.atl_phase.specs.Bounds.{CanInTurn}
 use Rattle.atl_market.proofs.pot_phase.pay_all.Given as goal
 
 -- the shares still to come can be paid in turn, and paying them gives the campaign that paying all shares gives; all

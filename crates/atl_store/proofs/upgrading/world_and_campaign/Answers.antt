@@ -25,15 +25,15 @@ returns-in_err-world-clause-err g c clean =
       loaded_old g.S.Store text old mid c.load_as.ensures.alone clean c.in_ok-old_world.old_world c.in_ok-old_world.campaign c.in_ok-old_world.ensures.ok,
     ))
 
-pub returns-then-not-is_same_but_for_markets-clause-err : goal.returns-then-not-is_same_but_for_markets-clause-err
-returns-then-not-is_same_but_for_markets-clause-err g c clean =
+pub returns-then-not-are_same_but_for_markets-clause-err : goal.returns-then-not-are_same_but_for_markets-clause-err
+returns-then-not-are_same_but_for_markets-clause-err g c clean =
     other_world g.S.Store c.args.new_world.now c.args.conn.now c.load_as.new.conn c.load_as.ensures.alone clean c.in_ok-old_world.old_world c.in_ok-world.world c.in_ok-old_world.campaign c.in_ok-old_world.ensures.ok c.in_ok-world.ensures.definition
-    (λ same. true≢false (sym (c.is_same_but_for_markets.ensures.1 same) ∙ c.if-not-is_same_but_for_markets.true))
+    (λ same. true≢false (sym (c.are_same_but_for_markets.ensures.1 same) ∙ c.if-not-are_same_but_for_markets.true))
 
 pub returns-clause-ok : goal.returns-clause-ok
 returns-clause-ok g c = record {
   world = c.in_ok-world.ensures.definition;
   before = c.in_ok-old_world.old_world;
   loads = c.in_ok-old_world.ensures.ok;
-  same = c.is_same_but_for_markets.ensures.0 c.if-not-is_same_but_for_markets.false;
+  same = c.are_same_but_for_markets.ensures.0 c.if-not-are_same_but_for_markets.false;
 }

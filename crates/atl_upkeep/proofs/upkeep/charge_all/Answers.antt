@@ -3,7 +3,7 @@ use Rattle.std.specs.Prelude.{fold}
 use Rattle.std.proofs.lemmas.List.{drop_more}
 use Rattle.atl_campaign.proofs.CoverLaws.{marks-trans}
 use Rattle.atl_campaign.specs.Campaign.{CampaignValue}
-use Rattle.atl_market.specs.Bounds.{CanInTurn}
+use Rattle.atl_phase.specs.Bounds.{CanInTurn}
 use Rattle.atl_shares.specs.declared.upkeep_sharing.UpkeepResult.{UpkeepResult}
 use Rattle.atl_upkeep.specs.UpkeepTaken.{CanPayUpkeep}
 use Rattle.atl_upkeep.specs.Upkeep.{upkeep_at}

@@ -2,7 +2,7 @@ use Rattle.std.proofs.Common.{◌≡◌, drop}
 use Rattle.std.specs.Prelude.{fold}
 use Rattle.atl_world.specs.Worlds.{WorldValue}
 use Rattle.atl_campaign.specs.Covers.{MarksChanges}
-use Rattle.atl_market.specs.Bounds.{CanInTurn}
+use Rattle.atl_phase.specs.Bounds.{CanInTurn}
 use Rattle.atl_upkeep.specs.UpkeepTaken.{CanPayUpkeep}
 use Rattle.atl_upkeep.specs.Upkeep.{upkeep, upkeep_at}
 use Rattle.atl_upkeep.proofs.upkeep.charge_all.Given as goal

@@ -3,8 +3,7 @@ ghost use Rattle.std.specs.Prelude.{◌≡◌, ◌↔◌, IsTrue};
 ghost use Rattle.atl_world.specs.Worlds.{without_market, without_markets};
 ghost use Rattle.atl_world.specs.Sums.{map_values};
 
-use crate::numbered::Numbered;
-use crate::world::{Item, Kind, RegionPlan, Rules, Skill, Terrain, World};
+use atl_world::{Item, Kind, Numbered, RegionPlan, Rules, Skill, Terrain, World};
 
 /// Whether two values are equal in each of the fields named: `agree!(one other: land wage)`.
 macro_rules! agree {
@@ -93,16 +92,14 @@ fn are_same_regions(plans: &Numbered<RegionPlan>, others: &Numbered<RegionPlan>)
     rest.next().is_none()
 }
 
-impl World {
-    /// Whether two worlds are equal once the markets of their regions are left out.
-    pub fn is_same_but_for_markets(&self, other: &World) -> bool
-        ensures { IsTrue result ↔ (without_markets self.now ≡ without_markets other.now) }
-    {
-        are_same_rules(self.rules(), other.rules())
-            && are_same(self.terrains(), other.terrains())
-            && are_same(self.items(), other.items())
-            && are_same(self.skills(), other.skills())
-            && are_same(self.kinds(), other.kinds())
-            && are_same_regions(self.regions(), other.regions())
-    }
+/// Whether two worlds are equal once the markets of their regions are left out.
+pub fn are_same_but_for_markets(world: &World, other: &World) -> bool
+    ensures { IsTrue result ↔ (without_markets world.now ≡ without_markets other.now) }
+{
+    are_same_rules(world.rules(), other.rules())
+        && are_same(world.terrains(), other.terrains())
+        && are_same(world.items(), other.items())
+        && are_same(world.skills(), other.skills())
+        && are_same(world.kinds(), other.kinds())
+        && are_same_regions(world.regions(), other.regions())
 }

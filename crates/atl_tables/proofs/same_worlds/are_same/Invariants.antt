@@ -1,5 +1,5 @@
 use Rattle.std.proofs.Common.{◌≡◌, take, length}
-use Rattle.atl_world.proofs.same_worlds.are_same.Given as goal
+use Rattle.atl_tables.proofs.same_worlds.are_same.Given as goal
 
 -- the two lists have the same length, and equal things at all indices below i
 abbrev pub invariant-loop-i : goal.invariant-loop-i

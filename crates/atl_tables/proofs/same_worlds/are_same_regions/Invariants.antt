@@ -1,8 +1,8 @@
 use Rattle.std.proofs.Common.{◌≡◌}
 use Rattle.atl_world.specs.Worlds.{without_market}
 use Rattle.atl_world.specs.Sums.{map_values}
-use Rattle.atl_world.proofs.SameLaws.{entries_without_markets}
-use Rattle.atl_world.proofs.same_worlds.are_same_regions.Given as goal
+use Rattle.atl_tables.proofs.SameLaws.{entries_without_markets}
+use Rattle.atl_tables.proofs.same_worlds.are_same_regions.Given as goal
 
 -- the regions still to come of both maps are equal but for markets exactly if the whole maps are
 abbrev pub invariant-loop-number : goal.invariant-loop-number

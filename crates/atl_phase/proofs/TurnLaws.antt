@@ -11,9 +11,8 @@ use Rattle.atl_records.specs.Limits.{holding_limit, most_units}
 use Rattle.atl_records.specs.Books.{amount_number}
 use Rattle.atl_campaign.specs.Campaign.{CampaignValue}
 use Rattle.atl_phase.specs.Meaning.{BookBound, Condition, LeavesWell, both_move, most_moved, moves_only}
-use Rattle.atl_phase.specs.Bounds.{HaveRoom, moved_times}
+use Rattle.atl_phase.specs.Bounds.{CanInTurn, HaveRoom, moved_times}
 use Rattle.atl_phase.proofs.MeaningLaws.{IsBoundWithin, both_leave_well, room_for_second, room_less, well_unchanged, well_within}
-use Rattle.atl_market.specs.Bounds.{CanInTurn}
 
 -- Steps that each move one amount (entry `a`, thing `b`) by at most 999,999,999, and no other, move it by less than
 -- 10^14 together. Their number `k` is at most 100,000, as many as there may be units.

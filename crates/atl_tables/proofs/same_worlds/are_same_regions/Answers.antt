@@ -1,6 +1,6 @@
 use Rattle.std.proofs.Common.{sym, ap, ◌∙◌}
-use Rattle.atl_world.proofs.SameLaws.{entries_without_markets, same_maps, same_entries, same_rest, same_with_first_entry}
-use Rattle.atl_world.proofs.same_worlds.are_same_regions.Goals as goal
+use Rattle.atl_tables.proofs.SameLaws.{entries_without_markets, same_maps, same_entries, same_rest, same_with_first_entry}
+use Rattle.atl_tables.proofs.same_worlds.are_same_regions.Goals as goal
 
 pub loop-number-init : goal.loop-number-init
 loop-number-init c =
