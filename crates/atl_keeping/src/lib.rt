@@ -1,16 +1,14 @@
-//! What a connection keeps of a campaign between two calls, and the writes: a founding, a join, a
-//! mailing, and what changed. Each write is one transaction, and a crash leaves the campaign before
-//! it or the one after it. See docs/FORMATS.md, "Tables".
+//! What a connection keeps of a campaign between two calls, and the writes: a join, a mailing, and
+//! what changed. Each write is one transaction, and a crash leaves the campaign before it or the one
+//! after it. See docs/FORMATS.md, "Tables".
 #![tactic(auto)]
 
 mod changing;
 pub mod fault;
-mod founding;
 mod joining;
 mod mailing;
 
 pub use changing::write_changes;
 pub use fault::{CreateFault, WriteFault};
-pub use founding::create;
 pub use joining::write_join;
 pub use mailing::write_mail;

@@ -4,7 +4,7 @@ use Rattle.atl_sql.specs.Inside.{IsBlank}
 use Rattle.atl_writing.specs.Filling.{WritesFounding}
 use Rattle.atl_keeping.proofs.StayLaws.{commits_keeps, may_found, failed_changes_nothing, refused_with, not_there, unchanged_itself, survives_is_later}
 use Rattle.atl_keeping.specs.Keeps.{FailsToCreate}
-use Rattle.atl_keeping.proofs.founding.create.Goals as goal
+use Rattle.atl_store.proofs.founding.create.Goals as goal
 
 pub returns-clause-ok : goal.returns-clause-ok
 returns-clause-ok g c =

@@ -7,8 +7,8 @@ ghost use Rattle.atl_campaign.specs.Marks.{no_marks};
 ghost use Rattle.atl_sql.specs.Making.{has_campaign};
 ghost use Rattle.atl_keeping.specs.Keeps.{Creates, IsReadyToCreate, RefusesToCreate, IsLater};
 
-use crate::fault::CreateFault;
 use atl_campaign::Campaign;
+use atl_keeping::CreateFault;
 use atl_writing::write_founding;
 use sqlite::{Alter, Connection};
 use sqlite_schema::schema::Schema;
