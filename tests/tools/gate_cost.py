@@ -5,13 +5,15 @@
 
 Before and after the command it runs four `rt selftest` side by side: one S is the processor seconds of one of the eight
 (docs/GATE.md, "What it costs"). After what the command prints come the lines of costs, each with `cost:` in front. They
-have the processor seconds and the most memory of each crate's proof, tests and edits, the sums in seconds and in S, and
-the longest chain of crates that wait for one another. What rt itself takes isn't in the sums. The command is sampled
-once a second, so each prover is counted up to a second short. The status is the command's."""
+have the processor seconds and the most memory of each crate's proof, tests and edits, the sums in seconds and in S, the
+longest chain of crates that wait for one another, and the dearest functions. What rt itself takes isn't in the sums.
+The command is sampled once a second, so each prover is counted up to a second short. The seconds of a function are
+those on the clock, with the reading of what it uses for the first time. The status is the command's."""
 import os
 import re
 import subprocess
 import sys
+import tempfile
 import threading
 from dataclasses import dataclass, field
 from pathlib import Path
@@ -19,6 +21,15 @@ from pathlib import Path
 TICKS = os.sysconf("SC_CLK_TCK")
 PAGE = os.sysconf("SC_PAGE_SIZE")
 SELFTESTS = 4
+# How many of the dearest functions are printed.
+DEAREST = 30
+# Where a prover writes a file for each module that it has checked, while it runs.
+MODULES = "rattle-logic-built-locked-{pid}-*"
+# What follows the name of a function in the name of a module.
+PARTS = re.compile(
+    r"\.(Answers|Carried|Code|Given|Goals|Invariants|Kinds|Layout|Lts|Met|Named|Paired|Proof|Reads|Statement|Symbol|"
+    r"The[A-Z]\w*|Tie|View)\b.*"
+)
 # The fields of /proc/PID/stat that count, after the name in brackets.
 PARENT, USER, SYSTEM, START, RESIDENT = 1, 11, 12, 19, 21
 RT = "rt itself"
@@ -26,28 +37,57 @@ RT = "rt itself"
 
 @dataclass
 class Prover:
-    """A process under the command: what it works on, its processor seconds so far, and its most memory in bytes."""
+    """A process under the command: what it works on, its processor seconds so far, its most memory in bytes, and when
+    it had checked each module, by the name of the module's file."""
 
     crate: str = RT
     task: str = ""
     seconds: float = 0.0
     memory: int = 0
+    modules: dict[str, float] = field(default_factory=dict)
 
 
 @dataclass
 class Costs:
-    """The processor seconds and the most memory by crate and task."""
+    """The processor seconds and the most memory by crate and task, and the seconds by crate and function."""
 
     seconds: dict[tuple[str, str], float] = field(default_factory=dict)
     memory: dict[tuple[str, str], int] = field(default_factory=dict)
+    functions: dict[tuple[str, str], float] = field(default_factory=dict)
 
     def add(self, prover: Prover) -> None:
         key = prover.crate, prover.task
         self.seconds[key] = self.seconds.get(key, 0.0) + prover.seconds
         self.memory[key] = max(self.memory.get(key, 0), prover.memory)
+        if prover.task in ("proof", "tests"):
+            for function, seconds in of_functions(prover.crate, prover.modules).items():
+                self.functions[prover.crate, function] = self.functions.get((prover.crate, function), 0.0) + seconds
 
     def of_task(self, task: str) -> float:
         return sum(seconds for (_, kind), seconds in self.seconds.items() if kind == task)
+
+
+def of_functions(crate: str, modules: dict[str, float]) -> dict[str, float]:
+    """The seconds that each function or file of laws took: the distance of each module to the one before it."""
+    taken: dict[str, float] = {}
+    by_time = sorted(modules, key=lambda it: modules[it])
+    for before, module in zip(by_time, by_time[1:]):
+        found = re.fullmatch(rf"Rattle-{crate}-(?:proofs|specs)\.(.*)\.oantt", module)
+        if found:
+            function = PARTS.sub("", found[1])
+            taken[function] = taken.get(function, 0.0) + modules[module] - modules[before]
+    return taken
+
+
+def note_modules(pid: int, modules: dict[str, float]) -> None:
+    """Notes the modules that a prover has checked since the last call."""
+    for folder in Path(tempfile.gettempdir()).glob(MODULES.format(pid=pid)):
+        try:
+            for module in os.scandir(folder):
+                if module.name not in modules:
+                    modules[module.name] = module.stat().st_mtime
+        except OSError:
+            pass  # the prover has ended, or puts a file in place
 
 
 def of_process(pid: int, name: str) -> bytes:
@@ -105,6 +145,7 @@ def sample(root: int, seen: dict[tuple[int, int], Prover]) -> None:
             prover.crate, prover.task = task_of(pid)
         prover.seconds = (stat[USER] + stat[SYSTEM]) / TICKS
         prover.memory = max(prover.memory, stat[RESIDENT] * PAGE)
+        note_modules(pid, prover.modules)
 
 
 def watched(command: list[str]) -> tuple[int, Costs]:
@@ -165,6 +206,8 @@ def report(costs: Costs, unit: float, crates: str) -> list[str]:
     chain, names = longest_chain(crates, costs)
     lines.append(f"{parts}, all {whole:.0f} s or {whole / unit:.1f} S")
     lines.append(f"the longest chain {chain:.0f} s or {chain / unit:.1f} S: {', '.join(names)}")
+    for key in sorted(costs.functions, key=lambda it: -costs.functions[it])[:DEAREST]:
+        lines.append(f"{costs.functions[key]:8.1f} s on the clock  {': '.join(key)}")
     return lines
 
 

@@ -4,7 +4,7 @@ import sys
 import unittest
 from pathlib import Path
 
-from tests.tools.gate_cost import Costs, Prover, longest_chain, report, watched
+from tests.tools.gate_cost import Costs, Prover, longest_chain, of_functions, report, watched
 
 # a, then b beside c, then d, which waits for both; e waits for nothing
 CRATES = "# lowest first\na:\nb: a sqlite\nc: a\nd: b c\ne:\n"
@@ -49,6 +49,32 @@ class GateCost(unittest.TestCase):
         lines = report(costs, 2, CRATES)
         self.assertIn("proof 38 s, tests 0 s, edits 4 s, all 42 s or 21.0 S", lines)
         self.assertIn("the longest chain 18 s or 9.0 S: a, c, d", lines)
+
+    def test_a_function_is_counted_by_its_modules(self) -> None:
+        modules = {
+            "Rattle-a.oantt": 10.0,
+            "Rattle-a-proofs.books.row_sum.Lts.Given.oantt": 11.5,
+            "Rattle-a-proofs.books.row_sum.Proof.oantt": 20.0,
+            "Rattle-a-proofs.books.Books.new.Carried-2-1.oantt": 21.0,
+            "Rattle-a-proofs.books.TheLinks.a-books.oantt": 21.5,
+            "Rattle-a-proofs.BookLaws.oantt": 24.5,
+            "Rattle-b-proofs.BookLaws.oantt": 30.0,
+        }
+        wanted = {"books.row_sum": 10.0, "books.Books.new": 1.0, "books": 0.5, "BookLaws": 3.0}
+        self.assertEqual(of_functions("a", modules), wanted)
+
+    def test_the_modules_of_a_prover_are_noted_as_it_runs(self) -> None:
+        script = (
+            "import os, pathlib, tempfile, time\n"
+            "room = tempfile.TemporaryDirectory(prefix=f'rattle-logic-built-locked-{os.getpid()}-')\n"
+            "for part in ('Goals', 'Proof'):\n"
+            "    time.sleep(1.5)\n"
+            "    pathlib.Path(room.name, f'Rattle-a-proofs.pots.share.{part}.oantt').touch()\n"
+            "time.sleep(1.5)"
+        )
+        _, costs = watched([sys.executable, "-c", script, "--crate-name", "a"])
+        self.assertAlmostEqual(costs.functions["a", "pots.share"], 1.5, delta=0.4)
+        self.assertIn("pots.share", report(costs, 1, CRATES)[-1])
 
     def test_a_missing_command_is_said(self) -> None:
         script = Path(__file__).with_name("gate_cost.py")
