@@ -73,7 +73,7 @@ class GateCost(unittest.TestCase):
             "time.sleep(1.5)"
         )
         _, costs = watched([sys.executable, "-c", script, "--crate-name", "a"])
-        self.assertAlmostEqual(costs.functions["a", "pots.share"], 1.5, delta=0.4)
+        self.assertGreater(costs.functions["a", "pots.share"], 1.4)
         self.assertIn("pots.share", report(costs, 1, CRATES)[-1])
 
     def test_a_missing_command_is_said(self) -> None:
